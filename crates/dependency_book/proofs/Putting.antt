@@ -1,7 +1,6 @@
 -- Books in which something is put in a row.
-use Rattle.std.proofs.Common.{◌≡◌, ℕ, ◌≤◌, ◌^◌, ◌∙◌, true, false, not, List, refl, sym, ap, subst, arith, Some}
-use Rattle.std.specs.Prelude.{if◌then◌else◌, ◌==◌, map, IfSome, slice_get, Option, None}
-use Rattle.std.proofs.lemmas.Bool.{and_parts}
+use Rattle.std.proofs.Common.{◌≡◌, ℕ, ◌≤◌, ◌^◌, ◌∙◌, true, false, List, refl, sym, ap, subst, arith, Some}
+use Rattle.std.specs.Prelude.{if◌then◌else◌, ◌==◌, map, Option, None}
 use Rattle.worlds.specs.World.{World}
 use Rattle.schedule.specs.declared.document.Bookmark.{Bookmark}
 use Rattle.schedule.specs.Plan.{Plan}
@@ -11,8 +10,8 @@ use Rattle.desk_events.specs.declared.mark.Mark.{Mark}
 use Rattle.desk_events.specs.declared.need.Need.{Need}
 use Rattle.desk_events.specs.declared.need.Need.TheVariants.{Step, View}
 use Rattle.dependency_book.specs.declared.row.RowState.{RowState}
-use Rattle.dependency_book.specs.declared.row.RowState.TheVariants.{Empty, Expected, Known}
-use Rattle.document_marks.specs.AllMarks.{AreMarksOf, mark_rank}
+use Rattle.dependency_book.specs.declared.row.RowState.TheVariants.{Known}
+use Rattle.document_marks.specs.AllMarks.{mark_rank}
 use Rattle.dependency_book.specs.BookState.{BookState, arrival_row, text_row, row_of}
 use Rattle.dependency_book.specs.Held.{IsHeld, places_of}
 use Rattle.desk_events.specs.Needs.{is_need, step_to}
@@ -27,7 +26,6 @@ use Rattle.desk_events.proofs.Shared.Marks.{mark_near, same_mark}
 use Rattle.dependency_book.proofs.Outs.{held_by}
 use Rattle.dependency_book.proofs.Standing.{has, keys-put, state_at-put_same, state_at-put_other, place_in-keys, count-put}
 use Rattle.desk_events.proofs.Shared.Tests.{either_way, clash, true_eq, eq_true}
-use Rattle.revision_jobs.specs.Entries.{IsOf}
 use Rattle.desk_events.specs.Right.{IsRight as IsRightCore, Stands}
 use Rattle.dependency_book.proofs.Shared.Cores.{put_core, put_there}
 use Rattle.schedule.specs.Scratch.{arrival}
@@ -37,39 +35,30 @@ use Rattle.dependency_book.specs.Core.{core_of}
 
 -- a book in which something is put is right
 
-given_still : (d e : BookState) (need : Need) (s : RowState Value) (job : Job) → Puts need s d e → IsGiven d job
-    → IsGiven e job
-given_still d e need s job puts h = record {
-  own = subst (λ t. IsOf t job.place) (sym puts.book.document.table) h.own;
-  entry = ap (λ es. slice_get es job.number) puts.book.entries ∙ h.entry;
-}
-
-state_given : (d : BookState) (s : RowState Value) (job : Job) → IfSome (job_of s) (IsGiven d) → job_of s ≡ Some job
-    → IsGiven d job
-state_given d s job h out = subst (λ o. IfSome o (IsGiven d)) out h
-
 pub put_right : (d e : BookState) (need : Need) (s : RowState Value) → IsRight d → CanBePut d need s → Puts need s d e
     → IsRight e
 put_right d e need s right can puts =
     let plan = puts.book.document.plan in
     record {
       core = subst IsRightCore (sym (put_core d e need s puts)) can.right;
-      marks = subst (λ p. AreMarksOf p (keys e.arrivals)) (sym plan)
-          (subst (AreMarksOf d.plan) (sym puts.book.document.marks) right.marks);
+      marks = rw (plan, puts.book.document.marks) right.marks;
       bookmarks = puts.book.document.bookmarks ∙ right.bookmarks ∙ ap (λ (p : Plan). p.bookmarks) (sym plan);
       out = λ other job out.
-          given_still d e need s job puts
-          (either_way (is_need need other)
-          (λ hit. state_given d s job can.out (sym (ap job_of (puts.rows other ∙ rw hit refl)) ∙ out))
-          (λ miss. right.out other job (sym (ap job_of (puts.rows other ∙ rw miss refl)) ∙ out)));
+          let is = sym (ap job_of (puts.rows other)) ∙ out in
+          still job (either_way (is_need need other) (λ hit. rw (rw hit at is) at can.out)
+          (λ miss. right.out other job (rw miss at is)));
+    }
+  where
+    still : (job : Job) → IsGiven d job → IsGiven e job
+    still job h = record {
+      own = rw puts.book.document.table h.own;
+      entry = rw puts.book.entries h.entry;
     }
 
 -- what is put among the rows
 
 missing-map : {V W : Type 0} (f : V → W) (s : RowState V) → missing (state_map f s) ≡ missing s
-missing-map f Empty = refl
-missing-map f (Expected job) = refl
-missing-map f (Known v) = refl
+missing-map f s = grind arith
 
 -- a book with this in the row of a mark
 abbrev pub with_arrival : BookState → Mark → RowState World → BookState
@@ -87,16 +76,16 @@ record HasRow (d : BookState) (m : Mark) : Type 0 where
 
 has_row : (d : BookState) (m : Mark) → IsRight d → can_change d.plan (step_to m) ≡ true → HasRow d m
 has_row d m right can =
-    let parts = and_parts (not (is_start m)) (is_mark d.plan m) can in
-    let off : is_start m ≡ false = either_way (is_start m) (λ hit. clash (not (is_start m)) parts.0 (rw hit refl))
-    (λ miss. miss) in
+    let off : is_start m ≡ false = grind (arith, can) in
+    let there : is_mark d.plan m ≡ true = grind (arith, can) in
     record {
       off = off;
-      there = has_mark m (keys d.arrivals) right.marks.near ∙ right.marks.are m off ∙ parts.1;
-      near = mark_near d.plan m right.core.sound parts.1;
+      there = has_mark m (keys d.arrivals) right.marks.near ∙ right.marks.are m off ∙ there;
+      near = mark_near d.plan m right.core.sound there;
     }
 
-pub arrival_puts : (d : BookState) (m : Mark) (s : RowState World) → IsRight d → can_change d.plan (step_to m) ≡ true → Puts (step_to m) (state_map pattern s) d (with_arrival d m s)
+pub arrival_puts : (d : BookState) (m : Mark) (s : RowState World) → IsRight d → can_change d.plan (step_to m) ≡ true
+    → Puts (step_to m) (state_map pattern s) d (with_arrival d m s)
 arrival_puts d m s right can =
     let h = has_row d m right can in
     record {
@@ -180,21 +169,23 @@ same_places xs ys bs same =
     ∙ ap (place_in mark_rank (mark_rank (bookmark_mark b))) same
     ∙ sym (place_in-keys mark_rank (mark_rank (bookmark_mark b)) ys)) i)
 
-pub arrival_held : (d : BookState) (places : List ℕ) (m : Mark) (s : RowState World) → IsHeld d places
-    → CanBePut d (step_to m) (state_map pattern s) → IsHeld (with_arrival d m s) places
-arrival_held d places m s held can =
-    held_by (with_arrival d m s) places
-    (held.places ∙ same_places d.arrivals (put mark_rank (mark_rank m) s d.arrivals) d.plan.bookmarks
-    (sym (keys-put mark_rank (mark_rank m) s d.arrivals)))
-    (put_right d (with_arrival d m s) (step_to m) (state_map pattern s) held.right can
-    (arrival_puts d m s held.right can.there))
+module _ {d : BookState} {places : List ℕ} (held : IsHeld d places) where
+  pub arrival_held : (m : Mark) (s : RowState World) → CanBePut d (step_to m) (state_map pattern s)
+      → IsHeld (with_arrival d m s) places
+  arrival_held m s can =
+      let puts = arrival_puts d m s held.right can.there in
+      held_by (with_arrival d m s) places
+      (held.places
+      ∙ same_places d.arrivals (put mark_rank (mark_rank m) s d.arrivals) d.plan.bookmarks
+      (sym puts.book.document.marks))
+      (put_right d (with_arrival d m s) (step_to m) (state_map pattern s) held.right can puts)
 
-pub text_held : (d : BookState) (places : List ℕ) (id : ℕ) (s : RowState (List ℕ)) → IsHeld d places
-    → CanBePut d (View id) (state_map text s) → IsHeld (with_text d id s) places
-text_held d places id s held can =
-    held_by (with_text d id s) places held.places
-    (put_right d (with_text d id s) (View id) (state_map text s) held.right can
-    (text_puts d id s held.right.bookmarks can.there))
+  pub text_held : (id : ℕ) (s : RowState (List ℕ)) → CanBePut d (View id) (state_map text s)
+      → IsHeld (with_text d id s) places
+  text_held id s can =
+      held_by (with_text d id s) places held.places
+      (put_right d (with_text d id s) (View id) (state_map text s) held.right can
+      (text_puts d id s held.right.bookmarks can.there))
 
 -- what may be put for a view is no pattern, and for a step no text
 

@@ -1,6 +1,6 @@
 -- Whether what arrives at a mark is known, by the row of its rank.
-use Rattle.std.proofs.Common.{◌≡◌, ℕ, ◌+◌, ◌∙◌, Bool, true, false, List, refl, ap, arith}
-use Rattle.std.specs.Prelude.{◌==◌}
+use Rattle.std.proofs.Common.{◌≡◌, ℕ, ◌+◌, Bool, true, false, List, refl, ap, arith}
+use Rattle.std.proofs.lemmas.Bool.Decides.{nat_tests}
 use Rattle.ranked_rows.specs.Rows.{row_at}
 use Rattle.desk_events.specs.declared.mark.Mark.{Mark}
 use Rattle.desk_events.specs.Marks.{is_start}
@@ -9,7 +9,6 @@ use Rattle.dependency_book.specs.RowState.{is_known}
 use Rattle.dependency_book.specs.Rows.{ArrivalRow, by_key}
 use Rattle.document_marks.specs.AllMarks.{mark_rank}
 use Rattle.dependency_book.proofs.Standing.{state_in, state_row}
-use Rattle.desk_events.proofs.Shared.Tests.{either_way, false_eq, true_eq}
 
 pub started : (rows : List ArrivalRow) (m : Mark) → is_start m ≡ true → true ≡ is_ready rows m
 started rows m hit = rw hit refl
@@ -21,7 +20,4 @@ ready_in rows m off = rw off (ap is_known (state_row mark_rank (mark_rank m) row
 -- no place passes up to one that doesn't
 pub none_more : {X : Type 0} (test : ℕ → X → Bool) (n : ℕ) → NoneBefore test n → ((x : X) → test n x ≡ false)
     → NoneBefore test (n + 1)
-none_more {X} test n none here = λ k x low.
-    either_way (k == n)
-    (λ hit. ap (λ j. test j x) (true_eq k n hit) ∙ here x)
-    (λ miss. none k x (let apart = false_eq k n miss in omega (arith, low, apart)))
+none_more test n none here = λ k x low. grind (arith, nat_tests, none k x, here x)

@@ -1,8 +1,8 @@
 -- What stands after an edit is right, and just what the edit keeps.
-use Rattle.std.proofs.Common.{◌≡◌, ℕ, ◌∙◌, ◌^◌, ◌≤◌, Bool, true, false, ◌&&◌, List, [], ◌∷◌, refl, sym, ap, ap₂, subst, Option, None, Some, Ok, inl, inr}
-use Rattle.std.specs.Prelude.{if◌then◌else◌, ◌==◌}
+use Rattle.std.proofs.Common.{arith, ◌≡◌, ℕ, ◌∙◌, ◌^◌, ◌≤◌, Bool, false, ◌&&◌, List, [], ◌∷◌, refl, sym, ap, ap₂, subst, Option, None, Some, Ok, inl, inr}
+use Rattle.std.specs.Prelude.{if◌then◌else◌}
 use Rattle.std.specs.List.{AllByRecursion}
-use Rattle.std.proofs.lemmas.Bool.{cond-false, cond-true}
+use Rattle.std.proofs.lemmas.Bool.Decides.{nat_tests}
 use Rattle.worlds.specs.World.{World}
 use Rattle.schedule.specs.declared.branch.Branch.{Branch}
 use Rattle.schedule.specs.declared.document.Bookmark.{Bookmark}
@@ -12,10 +12,8 @@ use Rattle.schedule.specs.Asked.{Asked}
 use Rattle.schedule.specs.Change.{Changed, change, changed, made, refusal, unless_refused}
 use Rattle.schedule.specs.Sound.{IsSound}
 use Rattle.revision_jobs.specs.declared.answer.Job.{Job}
-use Rattle.revision_jobs.specs.Value.{pattern, text}
 use Rattle.dependency_book.specs.declared.row.Row.{Row}
-use Rattle.dependency_book.specs.declared.row.RowState.{RowState}
-use Rattle.dependency_book.specs.declared.row.RowState.TheVariants.{Empty, Known}
+use Rattle.dependency_book.specs.declared.row.RowState.TheVariants.{Empty}
 use Rattle.desk_events.specs.declared.mark.Mark.{Mark}
 use Rattle.desk_events.specs.declared.need.Need.{Need}
 use Rattle.desk_events.specs.declared.need.Need.TheVariants.{Step, View}
@@ -24,30 +22,28 @@ use Rattle.dependency_book.specs.BookState.{BookState, arrival_known, arrival_ro
 use Rattle.desk_events.specs.Wanted.{bookmark_in}
 use Rattle.dependency_book.specs.Felt.{BookFeels}
 use Rattle.desk_events.specs.Felt.{IsFelt}
-use Rattle.dependency_book.specs.Kept.{KeepsRows, KeepsUnfelt, arrival_after, arrival_kept, bookmark_stays, mark_stays, text_kept}
-use Rattle.desk_events.specs.Kept.{keeps_arrival, keeps_text, stays_mark, keeps_bookmark}
+use Rattle.dependency_book.specs.Kept.{KeepsRows, KeepsUnfelt, arrival_after, bookmark_stays, mark_stays, text_kept}
+use Rattle.desk_events.specs.Kept.{keeps_arrival}
 use Rattle.desk_events.specs.Marks.{is_mark, is_start, mark_at}
 use Rattle.dependency_book.specs.declared.room.Rows.{Rows}
-use Rattle.dependency_book.specs.Remade.{AreRemade, kept_of, remade_rows}
+use Rattle.dependency_book.specs.Remade.{AreRemade, remade_rows}
 use Rattle.ranked_rows.specs.Rows.{row_at}
 use Rattle.dependency_book.specs.Right.{IsRight}
-use Rattle.dependency_book.specs.RowState.{state_map, job_of}
 use Rattle.dependency_book.specs.Rows.{ArrivalRow, TextRow, by_key, keys, state_at, bookmark_rank}
 use Rattle.dependency_book.proofs.Followed.{MayBeFelt, stays_for, texts_stay}
 use Rattle.document_marks.proofs.Shared.Grown.{accepted, unrefused}
 use Rattle.document_marks.proofs.Shared.Ranks.{has_mark, rank_is}
 use Rattle.dependency_book.proofs.Placed.{first_is}
-use Rattle.dependency_book.proofs.Remaking.{kept_for, keys-remade, state_at-remade, kept_at-first, kept_at-any}
-use Rattle.dependency_book.proofs.Standing.{has, state_at-above}
-use Rattle.desk_events.proofs.Shared.Tests.{either_way, true_eq}
-use Rattle.desk_events.specs.Core.{Core, Row as DeskRow, arrival_in, holds, nothing}
+use Rattle.dependency_book.proofs.Remaking.{kept_for, keys-remade, state_at-remade, kept_at-first}
+use Rattle.dependency_book.proofs.Standing.{has, state_at-above, state_row}
+use Rattle.desk_events.specs.Core.{Core, arrival_in}
 use Rattle.desk_events.specs.Event.{MayBeAsked, after_edit as core_after_edit, after_event, edits, kept_row}
 use Rattle.desk_events.specs.Right.{IsRight as IsRightCore}
 use Rattle.desk_events.proofs.Shared.Right.{edits_right_on}
 use Rattle.dependency_book.specs.Called.{IsEdit}
 use Rattle.dependency_book.specs.Core.{core_of, plain_row}
 use Rattle.dependency_book.specs.Recalled.{Recalls}
-use Rattle.dependency_book.proofs.Shared.Cores.{arrives_same, plain_if, same_core}
+use Rattle.dependency_book.proofs.Shared.Cores.{arrives_same, same_core}
 use Rattle.dependency_book.proofs.Recalled.{recalls_follow}
 
 -- what stands after an edit that is felt from here and gives this document, with these marks
@@ -70,11 +66,7 @@ kept_key : {K V : Type 0} (rank : K → ℕ) (keeps : K → Bool) (n : ℕ) (row
     ≡ (if has rank n ks && b then state_at rank n rows else Empty)
 kept_key rank keeps n rows b [] same = refl
 kept_key rank keeps n rows b (k ∷ ks) same =
-    either_way (rank k == n)
-    (λ hit. rw hit
-    (ap (λ t. kept_of (λ _. t) (row_at (by_key rank) n rows)) (same.0 (true_eq (rank k) n hit))
-    ∙ kept_at-any rank b n rows))
-    (λ miss. rw miss (kept_key rank keeps n rows b ks same.1))
+    grind (arith, nat_tests, same.0, state_row rank n rows, kept_key rank keeps n rows b ks same.1)
 
 -- marks that are near enough have ranks of their own
 keeps_one : (branches : List Branch) (felt : Option Mark) (m : Mark) (marks : List Mark)
@@ -92,36 +84,17 @@ mark_has : (p : Plan) (marks : List Mark) (m : Mark) → AreMarksOf p marks → 
     → has mark_rank (mark_rank m) marks ≡ is_mark p m
 mark_has p marks m are other = has_mark m marks are.near ∙ are.are m other
 
--- what stands only where a test holds
-only_there : {V : Type 0} (there keeps : Bool) (s : RowState V) → (there ≡ false → s ≡ Empty)
-    → (if keeps then s else Empty) ≡ (if there && keeps then s else Empty)
-only_there true keeps s none = refl
-only_there false true s none = none refl
-only_there false false s none = refl
-
 arrivals_stay : (d : BookState) (q : Plan) (felt : Option Mark) (marks : List Mark) (m : Mark)
     → AreMarksOf d.plan (keys d.arrivals) → AreMarksOf q marks
     → arrival_row (after_edit d q felt marks) m ≡ arrival_after felt d.plan q m (arrival_row d m)
 arrivals_stay d q felt marks m was are =
     let n = mark_rank m in
-    let e = after_edit d q felt marks in
     let keeps = keeps_arrival q.branches felt m in
-    let stood = state_at mark_rank n d.arrivals in
-    let kept = arrival_kept felt d.plan q m (arrival_row d m) in
-    either_way (is_start m)
-    (λ hit. cond-true (is_start m) (Known q.start) (state_at mark_rank n e.arrivals) hit
-    ∙ sym (cond-true (is_start m) (Known q.start) kept hit))
-    (λ miss.
-    cond-false (is_start m) (Known q.start) (state_at mark_rank n e.arrivals) miss
-    ∙ state_at-remade mark_rank (mark_stays q.branches felt) d.arrivals n marks
+    let stands = state_at-remade mark_rank (mark_stays q.branches felt) d.arrivals n marks
     ∙ kept_key mark_rank (keeps_arrival q.branches felt) n d.arrivals keeps marks
-    (keeps_one q.branches felt m marks are.near)
-    ∙ ap (λ b. if b && keeps then stood else Empty) (mark_has q marks m are miss)
-    ∙ only_there (is_mark d.plan m) (is_mark q m && keeps) stood
-    (λ off. state_at-above mark_rank n d.arrivals (mark_has d.plan (keys d.arrivals) m was miss ∙ off))
-    ∙ ap (λ s. if stays_mark felt d.plan q m then s else Empty)
-    (sym (cond-false (is_start m) (Known d.plan.start) stood miss))
-    ∙ sym (cond-false (is_start m) (Known q.start) kept miss))
+    (keeps_one q.branches felt m marks are.near) in
+    let none = state_at-above mark_rank n d.arrivals in
+    grind (arith, stands, none, mark_has q marks m are, mark_has d.plan (keys d.arrivals) m was)
 
 -- the bookmarks that stay
 
@@ -144,7 +117,7 @@ texts_after d asked felt marks id so bookmarks =
     ∙ kept_text branches felt id d.texts (bookmark_in bs id)
     ∙ ap (λ o. stays_for branches felt (bookmark_in bs id) o s)
     (first_is (keys d.texts) id ∙ ap (λ ks. bookmark_in ks id) bookmarks)
-    ∙ texts_stay d.plan asked felt id s so
+    ∙ texts_stay d.plan felt id s asked so
 
 may_be_felt : (known : Mark → Option World) (p q : Plan) (asked : Asked) (felt : Option Mark)
     → IsFelt known p asked q felt → MayBeFelt p asked felt
@@ -164,66 +137,18 @@ edit_keeps d asked felt marks right so are = record {
 
 -- in the law it is what the edit keeps
 
--- what is made of the one of two that a test picks
-map_if : {V W : Type 0} (f : V → W) (b : Bool) (x y : RowState V)
-    → state_map f (if b then x else y) ≡ (if b then state_map f x else state_map f y)
-map_if f true x y = refl
-map_if f false x y = refl
-
-text_kept_row : (branches : List Branch) (felt : Option Mark) (asked : Asked) (o : Option Bookmark)
-    (row : RowState (List ℕ)) → plain_row (state_map text (text_kept branches felt asked o row))
-    ≡ (if keeps_bookmark branches felt asked o then plain_row (state_map text row) else nothing)
-text_kept_row branches felt asked None row = refl
-text_kept_row branches felt asked (Some b) row =
-    ap plain_row (map_if text (keeps_text branches felt asked b) row Empty)
-    ∙ plain_if (keeps_text branches felt asked b) (state_map text row) Empty
-
 pub kept_core : (asked : Asked) (felt : Option Mark) (old new : BookState) → KeepsRows asked felt old new
     → (need : Need)
     → plain_row (row_of new need) ≡ kept_row old.plan asked felt new.plan need (plain_row (row_of old need))
-kept_core asked felt old new keeps (Step branch mark) =
-    let m = mark_at branch mark in
-    let stays = stays_mark felt old.plan new.plan m in
-    let start : RowState World = Known new.plan.start in
-    let left = arrival_kept felt old.plan new.plan m (arrival_row old m) in
-    ap (λ s. plain_row (state_map pattern s)) (keeps.arrivals m)
-    ∙ ap plain_row (map_if pattern (is_start m) start left)
-    ∙ plain_if (is_start m) (Known (pattern new.plan.start)) (state_map pattern left)
-    ∙ ap (λ (o : DeskRow). if is_start m then holds (pattern new.plan.start) else o)
-    (ap plain_row (map_if pattern stays (arrival_row old m) Empty)
-    ∙ plain_if stays (state_map pattern (arrival_row old m)) Empty)
-kept_core asked felt old new keeps (View id) =
-    ap (λ s. plain_row (state_map text s)) (keeps.texts id)
-    ∙ text_kept_row new.plan.branches felt asked (bookmark_in old.plan.bookmarks id) (text_row old id)
+kept_core asked felt old new keeps (Step branch mark) = grind (arith, keeps.arrivals (mark_at branch mark))
+kept_core asked felt old new keeps (View id) = grind (arith, keeps.texts id)
 
 -- a job that is out afterwards was out for the same row before
 
-out_if : {V W : Type 0} (f : V → W) (stays : Bool) (s : RowState V) (job : Job)
-    → job_of (state_map f (if stays then s else Empty)) ≡ Some job → job_of (state_map f s) ≡ Some job
-out_if f true s job out = out
-out_if f false s job out = absurd cc
-
-out_arrival : (start stays : Bool) (w : World) (s : RowState World) (job : Job)
-    → job_of (state_map pattern (if start then Known w else if stays then s else Empty)) ≡ Some job
-    → job_of (state_map pattern s) ≡ Some job
-out_arrival true stays w s job out = absurd cc
-out_arrival false stays w s job out = out_if pattern stays s job out
-
-out_text : (branches : List Branch) (felt : Option Mark) (asked : Asked) (o : Option Bookmark) (s : RowState (List ℕ))
-    (job : Job) → job_of (state_map text (text_kept branches felt asked o s)) ≡ Some job
-    → job_of (state_map text s) ≡ Some job
-out_text branches felt asked None s job out = absurd cc
-out_text branches felt asked (Some b) s job out = out_if text (keeps_text branches felt asked b) s job out
-
 kept_out : (asked : Asked) (felt : Option Mark) (d e : BookState) (need : Need) (job : Job)
     → KeepsRows asked felt d e → expected e need ≡ Some job → expected d need ≡ Some job
-kept_out asked felt d e (Step branch mark) job keeps out =
-    let m = mark_at branch mark in
-    out_arrival (is_start m) (stays_mark felt d.plan e.plan m) e.plan.start (arrival_row d m) job
-    (sym (ap (λ s. job_of (state_map pattern s)) (keeps.arrivals m)) ∙ out)
-kept_out asked felt d e (View id) job keeps out =
-    out_text e.plan.branches felt asked (bookmark_in d.plan.bookmarks id) (text_row d id) job
-    (sym (ap (λ s. job_of (state_map text s)) (keeps.texts id)) ∙ out)
+kept_out asked felt d e (Step branch mark) job keeps out = grind (arith, keeps.arrivals (mark_at branch mark), out)
+kept_out asked felt d e (View id) job keeps out = grind (arith, keeps.texts id, out)
 
 -- an edit keeps just this of a book, which is right afterwards
 abbrev pub Revises : Asked → BookState → BookState → Type 0

@@ -11,7 +11,7 @@ use Rattle.dependency_book.specs.declared.filled.Filled.{Filled}
 use Rattle.dependency_book.specs.declared.filled.Filled.TheVariants.{Row, Released, NotExpected}
 use Rattle.dependency_book.specs.BookState.{BookState, row_of, wanting_of}
 use Rattle.dependency_book.specs.Core.{core_of}
-use Rattle.dependency_book.specs.Jobs.{SameDocument, issued}
+use Rattle.dependency_book.specs.Jobs.{IsFilled, SameBook, SameDocument, answered, issued}
 use Rattle.dependency_book.specs.Said.{answer_said, said_at}
 
 -- an edit is asked, which is felt from some mark on
@@ -35,6 +35,14 @@ IsCollect answer old new Row = Calls (collects (answer_said answer)) (core_of ol
 IsCollect answer old new (Released fault) =
     Calls (collects (answer_said answer)) (core_of old) (core_of new)
 IsCollect answer old new NotExpected = new ≡ old
+
+-- what a book that takes an answer changes: no row but that which expects its job, as an event of
+-- the law does
+pub record Takes (answer : JobResult) (old new : BookState) (result : Filled) : Type 0 where
+  pub filled : IsFilled old new answer result
+  pub rows : (need : Need) → row_of new need ≡ answered answer (row_of old need)
+  pub book : SameBook old new
+  pub event : IsCollect answer old new result
 
 -- the job of a number is cancelled
 abbrev pub IsCancel : ℕ → BookState → BookState → Type 0

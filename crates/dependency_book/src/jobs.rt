@@ -6,13 +6,13 @@ ghost use Rattle.revision_jobs.specs.Entries.{IsOf};
 ghost use Rattle.revision_jobs.specs.Value.{pattern, text};
 ghost use Rattle.dependency_book.specs.declared.row.RowState.TheVariants.{Empty, Expected, Known};
 ghost use Rattle.dependency_book.specs.RowState.{state_map};
-ghost use Rattle.dependency_book.specs.Jobs.{answered, cancelled, given_by};
+ghost use Rattle.dependency_book.specs.Jobs.{cancelled, given_by};
 ghost use Rattle.dependency_book.specs.Jobs.{IsAnyOut, IsFilled, IsFirstOut, IsForgotten};
 ghost use Rattle.dependency_book.specs.Jobs.{Expects, FreesOne, IsNextJob, NoneExpects, SameBook};
 ghost use Rattle.dependency_book.specs.Jobs.{SameDocument};
 ghost use Rattle.desk_events.specs.Needs.{step_to};
 ghost use Rattle.dependency_book.specs.BookState.{given_of, row_of, with_refusal};
-ghost use Rattle.dependency_book.specs.Called.{IsCancel, IsCollect, IsIssue};
+ghost use Rattle.dependency_book.specs.Called.{IsCancel, IsCollect, IsIssue, Takes};
 ghost use Rattle.dependency_book.specs.Recalled.{Fills};
 ghost use Rattle.dependency_book.specs.Right.{IsRight};
 ghost use Rattle.dependency_book.specs.Puts.{CanBePut, Puts, filled_by};
@@ -101,11 +101,7 @@ impl Book<'_> {
     fn take(&mut self, parts: Parts) -> Filled
         requires own { IsOf self.old.table parts.job.place }
         requires right { IsRightAnswer parts.job parts.limit (outcome_of parts.outcome) }
-        ensures filled { IsFilled self.old self.new (result_in parts) result }
-        ensures rows { (need : Need) →
-            row_of self.new need ≡ answered (result_in parts) (row_of self.old need) }
-        ensures book { SameBook self.old self.new }
-        ensures event { IsCollect (result_in parts) self.old self.new result }
+        ensures takes { Takes (result_in parts) self.old self.new result }
         ensures right { IsRight self.new }
     {
         let Parts { job, outcome, .. } = parts;

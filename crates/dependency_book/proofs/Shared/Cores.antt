@@ -27,7 +27,7 @@ use Rattle.desk_events.proofs.Shared.Needs.{need_same}
 use Rattle.schedule.specs.Scratch.{scratch}
 use Rattle.desk_events.specs.declared.need.Need.TheVariants.{View}
 
-abbrev core : Plan → List Entry → (Need → Row) → Core
+abbrev pub core : Plan → List Entry → (Need → Row) → Core
 core p es rows = record { plan = p; entries = es; rows = rows }
 
 -- desks of equal parts

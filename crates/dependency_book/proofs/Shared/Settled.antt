@@ -26,5 +26,4 @@ few_rows d right =
 
 -- where no job is out and something stands in every row
 pub none_pending : (d : BookState) → IsRight d → NothingOut d → wanting_of d ≡ 0 → pending_of d ≡ 0
-none_pending d right = none_wanting d (places_of d.arrivals d.plan.bookmarks)
-    (held_by d (places_of d.arrivals d.plan.bookmarks) refl right)
+none_pending d right = none_wanting (held_by d (places_of d.arrivals d.plan.bookmarks) refl right)

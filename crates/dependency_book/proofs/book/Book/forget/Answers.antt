@@ -1,6 +1,3 @@
-use Rattle.std.proofs.Common.{sym, subst, Some}
-use Rattle.revision_jobs.specs.declared.entries.Place.{Place}
-use Rattle.dependency_book.specs.Jobs.{IsForgotten}
 use Rattle.dependency_book.proofs.Working.{cancel_is, may_free, put_cancels}
 use Rattle.dependency_book.proofs.book.Book.forget.Goals as goal
 
@@ -9,19 +6,16 @@ returns-in_err-need-clause-right c = c.expecting.ensures.right
 
 pub release-requires : goal.release-requires
 release-requires c =
-    may_free c.args.self.now c.in_ok-need.need c.args.number c.in_ok-need.place.now c.expecting.ensures.right
-    c.in_ok-need.ensures.row
+    may_free c.in_ok-need.need c.expecting.ensures.right c.in_ok-need.ensures.row
 
 pub returns-clause-event : goal.returns-clause-event
 returns-clause-event c =
-    cancel_is c.args.self.now c.release.new.self c.in_ok-need.need c.args.number c.in_ok-need.place.now
-    c.expecting.ensures.right c.in_ok-need.ensures.row c.release.ensures.row
+    cancel_is c.in_ok-need.need c.expecting.ensures.right c.in_ok-need.ensures.row c.release.new.self c.release.ensures.row
 
 pub returns-clause-rows : goal.returns-clause-rows
 returns-clause-rows c =
-    put_cancels c.args.self.now c.release.new.self c.in_ok-need.need c.args.number c.in_ok-need.place.now
-    c.expecting.ensures.right c.in_ok-need.ensures.row c.release.ensures.row
+    put_cancels c.in_ok-need.need c.expecting.ensures.right c.in_ok-need.ensures.row c.release.new.self c.release.ensures.row
 
 pub returns-clause-place : goal.returns-clause-place
-returns-clause-place c = subst (λ (p : Place). IsForgotten c.args.self.now c.args.number (Some p))
-    (sym c.share-place.ensures) (c.in_ok-need.ensures.own, (c.in_ok-need.need, c.in_ok-need.ensures.row))
+returns-clause-place c =
+    rw c.share-place.ensures (c.in_ok-need.ensures.own, (c.in_ok-need.need, c.in_ok-need.ensures.row))

@@ -12,7 +12,6 @@ pub returns-in_err-next_step-clause-settled : goal.returns-in_err-next_step-clau
 returns-in_err-next_step-clause-settled c =
     let d : BookState = c.next_step.new.self in
     subst (λ (o : Option Need). IfNone o (NothingOut d → pending_of d ≡ 0)) (sym c.from_residual.ensures)
-    (none_pending d (places_of d.arrivals d.plan.bookmarks)
-    (held_by d (places_of d.arrivals d.plan.bookmarks) refl c.next_step.ensures.right)
+    (none_pending (held_by d (places_of d.arrivals d.plan.bookmarks) refl c.next_step.ensures.right)
     (subst (λ (e : BookState). IsNextView e None) (sym c.next_step.ensures.same) c.in_default.ensures.next)
     c.in_err-next_step.ensures.next)

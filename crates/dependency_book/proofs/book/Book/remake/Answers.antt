@@ -44,8 +44,8 @@ rows_of-rows-requires-clause-own c =
     let arrivals : c.replace-arrivals.result.items ≡ d.arrivals = rw c.replace-arrivals.ensures.value refl in
     let texts : c.replace-texts.result.items ≡ d.texts = rw c.replace-texts.ensures.value refl in (
       subst (λ (rows : List ArrivalRow). OutsAreOf d.table rows) (sym arrivals)
-          (all_own d places c.self.invariant.held).arrivals,
-      subst (λ (rows : List TextRow). OutsAreOf d.table rows) (sym texts) (all_own d places c.self.invariant.held).texts,
+          (all_own c.self.invariant.held).arrivals,
+      subst (λ (rows : List TextRow). OutsAreOf d.table rows) (sym texts) (all_own c.self.invariant.held).texts,
     )
 
 -- what was made of the book
