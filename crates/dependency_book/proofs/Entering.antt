@@ -37,7 +37,8 @@ use Rattle.dependency_book.proofs.Shared.Cores.{known_arrives}
 
 view_after : (d : BookState) (id : ℕ) (r : Rendering) → IsRight d → (h : ViewsOf d id r)
     → world_in r ≡ after d.plan h.bookmark.branch h.bookmark.generation
-view_after d id r right h = gives.view_after d.plan (arrival_known d) id (view_said r) (known_arrives d right) h
+view_after d id r right h = gives.view_after d.plan (arrival_known d) id (view_said r) (known_arrives d right)
+    h
 
 -- a step
 
@@ -68,7 +69,8 @@ step_workable d m s right h =
       },
     )
 
-each_within : (bs : List Bookmark) (id : ℕ) (b : Bookmark) → AllByRecursion (λ (c : Bookmark). IsWithin c.view) bs
+each_within : (bs : List Bookmark) (id : ℕ) (b : Bookmark)
+    → AllByRecursion (λ (c : Bookmark). IsWithin c.view) bs
     → bookmark_in bs id ≡ Some b → IsWithin b.view
 each_within [] id b all there = absurd cc
 each_within (c ∷ bs) id b all there =
@@ -90,7 +92,8 @@ view_workable d id r right h =
     )
 
 -- the entry of what is to be computed can be worked
-pub entry_workable : (d : BookState) (need : Need) (e : Entry) → IsRight d → IsEntryOf d need e → CanBeWorked e
+pub entry_workable : (d : BookState) (need : Need) (e : Entry) → IsRight d → IsEntryOf d need e
+    → CanBeWorked e
 entry_workable d (Step branch mark) (entry.Step s) right h = step_workable d (mark_at branch mark) s right h
 entry_workable d (Step branch mark) (entry.View r) right h = absurd h
 entry_workable d (View id) (entry.Step s) right h = absurd h

@@ -20,7 +20,8 @@ use Rattle.desk_events.proofs.Shared.Tests.{eq_true}
 use Rattle.desk_events.proofs.Shared.Bookmarks.{in_added, moved_in, in_moved, in_removed, in_is}
 
 -- what stands for a bookmark after an edit, by the bookmark of its id then and before
-abbrev pub stays_for : {V : Type 0} → List Branch → Option Mark → Option Bookmark → Option Bookmark → RowState V
+abbrev pub stays_for : {V : Type 0} → List Branch → Option Mark → Option Bookmark → Option Bookmark
+    → RowState V
     → RowState V
 stays_for branches felt None was s = Empty
 stays_for branches felt (Some b) was s = if_stays (bookmark_stays branches felt b) was s
@@ -36,7 +37,8 @@ nowhere felt (inr is) = is
 -- what stays, for each kind of edit
 
 module _ {V : Type 0} (branches : List Branch) (s : RowState V) where
-  same_kept : (felt : Option Mark) (asked : Asked) (o : Option Bookmark) → ((b : Bookmark) → takes asked b ≡ false)
+  same_kept : (felt : Option Mark) (asked : Asked) (o : Option Bookmark)
+      → ((b : Bookmark) → takes asked b ≡ false)
       → stays_for branches felt o o s ≡ text_kept branches felt asked o s
   same_kept felt asked None f = refl
   same_kept felt asked (Some b) f = rw (eq_true b.generation b.generation refl, f b) refl
@@ -53,7 +55,8 @@ module _ {V : Type 0} (branches : List Branch) (s : RowState V) where
   moved_kept i g o = grind (arith, nat_tests)
 
   removed_kept : (i id : ℕ) (o : Option Bookmark) → ((b : Bookmark) → o ≡ Some b → b.id ≡ id)
-      → stays_for branches None (if i == id then None else o) o s ≡ text_kept branches None (RemoveBookmark i) o s
+      → stays_for branches None (if i == id then None else o) o s
+      ≡ text_kept branches None (RemoveBookmark i) o s
   removed_kept i id None f = grind (arith, nat_tests)
   removed_kept i id (Some b) f = grind (arith, nat_tests, f b refl)
 
@@ -81,13 +84,16 @@ module _ {V : Type 0} (p : Plan) (felt : Option Mark) (id : ℕ) (s : RowState V
   texts_stay (ReplaceRule rule) so = unmoved p.branches (ReplaceRule rule) (λ b. refl)
   texts_stay (AddBookmark branch g view) so =
       let b : Bookmark = next_bookmark p branch g view in
-      added_kept p.branches s felt branch g view (bookmark_in p.bookmarks id) (bookmark_in (p.bookmarks ++ b ∷ []) id)
+      added_kept p.branches s felt branch g view (bookmark_in p.bookmarks id)
+      (bookmark_in (p.bookmarks ++ b ∷ []) id)
       (λ c is. in_added p.bookmarks b id c is)
   texts_stay (MoveBookmark i g) so =
-      rw (nowhere felt so, in_moved p.bookmarks i g id) (moved_kept p.branches s i g (bookmark_in p.bookmarks id))
+      rw (nowhere felt so, in_moved p.bookmarks i g id)
+      (moved_kept p.branches s i g (bookmark_in p.bookmarks id))
   texts_stay (RemoveBookmark i) so =
       rw (nowhere felt so, in_removed p.bookmarks i id)
       (removed_kept p.branches s i id (bookmark_in p.bookmarks id) (in_is p.bookmarks id))
   texts_stay (AddBranch parent g) so =
       unmoved (changed p (AddBranch parent g)).plan.branches (AddBranch parent g) (λ b. refl)
-  texts_stay (RemoveBranch n) so = unmoved (changed p (RemoveBranch n)).plan.branches (RemoveBranch n) (λ b. refl)
+  texts_stay (RemoveBranch n) so = unmoved (changed p (RemoveBranch n)).plan.branches (RemoveBranch n)
+      (λ b. refl)

@@ -37,12 +37,14 @@ module _ {d : BookState} {places : List ℕ} (held : IsHeld d places) where
       let k = place_of_mark d m in
       let f = mark_row held m led.above led.is in
       let comes = λ (x : ArrivalRow).
-      subst (ComesBefore d.plan (before_row d.plan.branches d.arrivals k x)) (f.is x) (row_comes held k x f.at.low) in
+      subst (ComesBefore d.plan (before_row d.plan.branches d.arrivals k x)) (f.is x)
+      (row_comes held k x f.at.low) in
       record {
         low = f.at.low;
         comes = comes;
         arrived = λ x.
-            rw (before_one d.plan led.before (before_row d.plan.branches d.arrivals k x) m held.right.core.sound
+            rw (before_one d.plan led.before (before_row d.plan.branches d.arrivals k x) m
+            held.right.core.sound
             led.comes (comes x)) at led.arrived;
       }
 

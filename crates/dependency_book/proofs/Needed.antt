@@ -77,7 +77,8 @@ module _ {d : BookState} {places : List ℕ} (held : IsHeld d places) where
       ap (λ ps. get_or ps k 0) (held.places ∙ ap (places_of d.arrivals) (sym held.right.bookmarks))
       ∙ place_at d.arrivals d.texts k x low in
       ap (λ b. is_empty r.state && b)
-      (ap (place_ready d.arrivals m) at ∙ place_is m (bookmark_is_mark d.plan r.key.id r.key (in_at held k x low)))
+      (ap (place_ready d.arrivals m) at ∙ place_is m
+      (bookmark_is_mark d.plan r.key.id r.key (in_at held k x low)))
 
   can_be_viewed : (k : ℕ) (x : TextRow) → k < length d.texts → viewable d.arrivals d.texts places k x ≡ true
       → CanBeViewed d (get_or d.texts k x).key
@@ -116,7 +117,8 @@ module _ {d : BookState} {places : List ℕ} (held : IsHeld d places) where
             let up = never_falls (by_key bookmark_rank) d.texts held.ids_rise k f.place x in
             let low = f.low in
             either_way (nat_lt f.place k)
-            (λ hit. absurd (let bad = none (true_lt f.place k hit) in let one = viewed_there other can f x in cc))
+            (λ hit. absurd (let bad = none (true_lt f.place k hit) in let one = viewed_there other can f
+            x in cc))
             (λ miss. let le = up (false_lt f.place k miss) low in omega (arith, le, at, named));
       }
 
@@ -170,7 +172,8 @@ module _ {d : BookState} {places : List ℕ} (held : IsHeld d places) where
       }
 
   -- nothing stands in the row of a mark to which a step can be made
-  pub steps_there : (k : ℕ) (x : ArrivalRow) → x ≡ get_or d.arrivals k x → k < length d.arrivals → IsSteppable d k x
+  pub steps_there : (k : ℕ) (x : ArrivalRow) → x ≡ get_or d.arrivals k x → k < length d.arrivals
+      → IsSteppable d k x
       → CanBeReached d x.key
   steps_there k x is low can =
       subst (λ (r : ArrivalRow). CanBeReached d r.key) (sym is) (can_be_reached k x low can)
@@ -192,7 +195,8 @@ module _ {d : BookState} {places : List ℕ} (held : IsHeld d places) where
 
   -- the first mark that a step can be made to is the first that can be reached
   pub step_next : (k : ℕ) (x : ArrivalRow) → x ≡ get_or d.arrivals k x
-      → IsFirst (steppable d.plan.branches d.arrivals) (length d.arrivals) (Some k) → IsNextStep d (Some x.key)
+      → IsFirst (steppable d.plan.branches d.arrivals) (length d.arrivals) (Some k)
+      → IsNextStep d (Some x.key)
   step_next k x is first = record {
     can = steps_there k x is first.0 (first.1 x);
     first = λ other can.
@@ -202,7 +206,8 @@ module _ {d : BookState} {places : List ℕ} (held : IsHeld d places) where
         (λ hit. clash (steppable d.plan.branches d.arrivals p x) (reached_there other can f x)
         (first.2 p x (true_lt p k hit)))
         (λ miss.
-        let up = never_falls (by_key mark_rank) d.arrivals held.marks_rise k p x (false_lt p k miss) f.at.low in
+        let up = never_falls (by_key mark_rank) d.arrivals held.marks_rise k p x (false_lt p k miss)
+        f.at.low in
         let here : mark_rank (mark_of_row d k x) ≡ mark_rank x.key = ap (by_key mark_rank) (sym is) in
         let there : mark_rank (mark_of_row d p x) ≡ mark_rank other = ap mark_rank (f.is x) in
         not_after x.key other
@@ -271,7 +276,8 @@ before_lower p a m sound near (inr precedes) = rank_within a m precedes.branch n
 module _ {d : BookState} {places : List ℕ} (held : IsHeld d places) where
   -- all before a place are
   abbrev KnownBelow : ℕ → Type 0
-  KnownBelow n = (k : ℕ) (x : ArrivalRow) → k < n → k < length d.arrivals → is_known (get_or d.arrivals k x).state ≡ true
+  KnownBelow n = (k : ℕ) (x : ArrivalRow) → k < n → k < length d.arrivals
+      → is_known (get_or d.arrivals k x).state ≡ true
 
   -- what arrives at a mark is known where its row is
   row_known : (m : Mark) (n : ℕ) → KnownBelow n → is_mark d.plan m ≡ true
@@ -330,7 +336,8 @@ module _ {d : BookState} {places : List ℕ} (held : IsHeld d places) where
       either_way (is_empty (get_or d.texts k x).state)
       (λ hit. absurd
       (views (get_or d.texts k x).key
-      (can_be_viewed held k x low (viewable_is held k x low ∙ rw (hit, all_ready each.arrivals steps k x low) refl))))
+      (can_be_viewed held k x low
+      (viewable_is held k x low ∙ rw (hit, all_ready each.arrivals steps k x low) refl))))
       (λ miss. miss))
 
   pub none_wanting : NothingOut d → wanting_of d ≡ 0 → pending_of d ≡ 0

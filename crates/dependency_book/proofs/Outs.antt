@@ -136,7 +136,8 @@ row_for-is n (r ∷ rs) key place h = elim (named_or n r.key key (job_of r.state
       record { at = suc f.at; low = omega (arith, low); is = f.is; out = f.out }
 ]
 
-pub expecting_none : (d : BookState) (n : ℕ) → row_for n d.arrivals ≡ None → row_for n d.texts ≡ None → (need : Need)
+pub expecting_none : (d : BookState) (n : ℕ) → row_for n d.arrivals ≡ None → row_for n d.texts ≡ None
+    → (need : Need)
     → has_number n (expected d need) ≡ false
 expecting_none d n arrivals texts =
     each_expected (λ o. has_number n o ≡ false) d refl (λ m. row_for-none mark_rank n m d.arrivals arrivals)
@@ -170,7 +171,8 @@ lesser_none a b h = grind arith
 lesser_is : (a b : Option ℕ) (n : ℕ) → lesser a b ≡ Some n → (a ≡ Some n) ⊎ (b ≡ Some n)
 lesser_is a b n h = grind (arith, nat_tests)
 
-lesser_le : (a b : Option ℕ) (n : ℕ) → IfSome (lesser a b) (λ m. n ≤ m) → IfSome a (λ m. n ≤ m) × IfSome b (λ m. n ≤ m)
+lesser_le : (a b : Option ℕ) (n : ℕ) → IfSome (lesser a b) (λ m. n ≤ m)
+    → IfSome a (λ m. n ≤ m) × IfSome b (λ m. n ≤ m)
 lesser_le a b n h = grind (arith, nat_tests)
 
 least_out-none : {K V : Type 0} (rank : K → ℕ) (m : ℕ) (rows : List (Row K V)) → least_out rows ≡ None
@@ -191,11 +193,13 @@ pub record HasPair {K : Type 0} (pair : Option (K × Place)) : Type 0 where
   pub place : Place
   pub is : pair ≡ Some (key, place)
 
-least_found : {K V : Type 0} (rows : List (Row K V)) (n : ℕ) → least_out rows ≡ Some n → IsSome (row_for n rows)
+least_found : {K V : Type 0} (rows : List (Row K V)) (n : ℕ) → least_out rows ≡ Some n
+    → IsSome (row_for n rows)
 least_found [] n h = absurd cc
 least_found (r ∷ rs) n h = grind (arith, nat_tests, least_found rs n)
 
-least_has : {K V : Type 0} (rows : List (Row K V)) (n : ℕ) → least_out rows ≡ Some n → HasPair (row_for n rows)
+least_has : {K V : Type 0} (rows : List (Row K V)) (n : ℕ) → least_out rows ≡ Some n
+    → HasPair (row_for n rows)
 least_has {K} rows n h = has_pair (row_for n rows) (least_found rows n h)
   where
     has_pair : (o : Option (K × Place)) → IsSome o → HasPair o
@@ -229,7 +233,8 @@ module _ {d : BookState} {places : List ℕ} (held : IsHeld d places) where
   -- whether a row expects a job
   pub any_out_is : IsAnyOut d (any_out d.arrivals || any_out d.texts)
   any_out_is =
-      rw (some_out d.arrivals, some_out d.texts) (of_first (least_out d.arrivals) (least_out d.texts) first_out_is)
+      rw (some_out d.arrivals, some_out d.texts)
+      (of_first (least_out d.arrivals) (least_out d.texts) first_out_is)
     where
       some_out : {K V : Type 0} (rows : List (Row K V)) → any_out rows ≡ is_some (least_out rows)
       some_out [] = refl

@@ -29,7 +29,8 @@ use Rattle.dependency_book.proofs.Putting.{arrival_held, text_held, with_arrival
 use Rattle.desk_events.proofs.Shared.Tests.{either_way}
 
 -- what is put stands in a row, or the row is as it was
-put_each : {K V : Type 0} (rank : K → ℕ) (n : ℕ) (s : RowState V) (rows : List (Row K V)) (k : ℕ) (x : Row K V)
+put_each : {K V : Type 0} (rank : K → ℕ) (n : ℕ) (s : RowState V) (rows : List (Row K V)) (k : ℕ)
+    (x : Row K V)
     → ((get_or (put rank n s rows) k x).state ≡ s) ⊎ (get_or (put rank n s rows) k x ≡ get_or rows k x)
 put_each rank n s [] k x = inr refl
 put_each rank n s (r ∷ rs) zero x = grind (arith, nat_tests)
@@ -43,7 +44,8 @@ put_key rank n s (r ∷ rs) zero x = grind (arith, nat_tests)
 put_key rank n s (r ∷ rs) (suc k) x = grind (arith, nat_tests, put_key rank n s rs k x)
 
 -- a text for which something stands now can't be viewed
-views_filled : (arrivals : List ArrivalRow) (texts : List TextRow) (places : List ℕ) (n m : ℕ) (s : RowState (List ℕ))
+views_filled : (arrivals : List ArrivalRow) (texts : List TextRow) (places : List ℕ) (n m : ℕ)
+    (s : RowState (List ℕ))
     → is_empty s ≡ false → NoneBefore (viewable arrivals texts places) m
     → NoneBefore (viewable arrivals (put bookmark_rank n s texts) places) m
 views_filled arrivals texts places n m s full none = λ k x low.
@@ -90,7 +92,8 @@ module _ (n : ℕ) (job : Job) where
       ap₂ (λ (m other : Mark). before_in (element_at branch_id branches m.branch) m other)
       (put_key mark_rank n (Expected job) rows k x) (row_before-put rows k x)
 
-  steps_out : (branches : List Branch) (rows : List ArrivalRow) (m : ℕ) → NoneBefore (steppable branches rows) m
+  steps_out : (branches : List Branch) (rows : List ArrivalRow) (m : ℕ)
+      → NoneBefore (steppable branches rows) m
       → NoneBefore (steppable branches (put mark_rank n (Expected job) rows)) m
   steps_out branches rows m none = λ k x low.
       let same = before_row-put branches rows k x in

@@ -29,7 +29,8 @@ use Rattle.dependency_book.proofs.Standing.{all_keys, has, has_row_at, has_stand
 use Rattle.desk_events.proofs.Shared.Tests.{either_way, true_eq}
 
 -- a rank of a row that is below that of another isn't above that of the row before it
-before_le : {T : Type 0} (rank : T → ℕ) (rows : List T) (j p : ℕ) (d : T) → IdsRise rank rows → suc j < length rows
+before_le : {T : Type 0} (rank : T → ℕ) (rows : List T) (j p : ℕ) (d : T) → IdsRise rank rows
+    → suc j < length rows
     → p < length rows → rank (get_or rows p d) < rank (get_or rows (suc j) d)
     → rank (get_or rows p d) ≤ rank (get_or rows j d)
 before_le rank rows j p d rise low fits less =
@@ -67,7 +68,8 @@ pub record MarkRow (d : BookState) (m : Mark) : Type 0 where
 
 module _ {d : BookState} {places : List ℕ} (held : IsHeld d places) where
   -- a mark besides the start has a row
-  pub has_row : (m : Mark) → is_start m ≡ false → has mark_rank (mark_rank m) (keys d.arrivals) ≡ is_mark d.plan m
+  pub has_row : (m : Mark) → is_start m ≡ false → has mark_rank (mark_rank m) (keys d.arrivals)
+      ≡ is_mark d.plan m
   has_row m beside = has_mark m (keys d.arrivals) held.right.marks.near ∙ held.right.marks.are m beside
 
   module _ (k : ℕ) (x : ArrivalRow) (low : k < length d.arrivals) where
@@ -107,7 +109,8 @@ module _ {d : BookState} {places : List ℕ} (held : IsHeld d places) where
 
   -- the row before a row, or the start, ranks below it, and no mark ranks between the two
 
-  before_is : (k : ℕ) (x : ArrivalRow) → k < length d.arrivals → is_mark d.plan (row_before d.arrivals k x) ≡ true
+  before_is : (k : ℕ) (x : ArrivalRow) → k < length d.arrivals
+      → is_mark d.plan (row_before d.arrivals k x) ≡ true
   before_is zero x low = refl
   before_is (suc j) x low = row_is j x (omega (arith, low))
 
@@ -123,9 +126,11 @@ module _ {d : BookState} {places : List ℕ} (held : IsHeld d places) where
   none_between : (k : ℕ) (x : ArrivalRow) (n : Mark) → k < length d.arrivals → is_mark d.plan n ≡ true
       → mark_rank n < mark_rank (mark_of d.arrivals k x) → mark_rank n ≤ mark_rank (row_before d.arrivals k x)
   none_between k x n low there less =
-      either_way (is_start n) (λ hit. grind (arith, nat_tests)) (λ off. by_place k low less (mark_row n off there))
+      either_way (is_start n) (λ hit. grind (arith, nat_tests))
+      (λ off. by_place k low less (mark_row n off there))
     where
-      by_place : (k : ℕ) → k < length d.arrivals → mark_rank n < mark_rank (mark_of d.arrivals k x) → MarkRow d n
+      by_place : (k : ℕ) → k < length d.arrivals → mark_rank n < mark_rank (mark_of d.arrivals k x)
+          → MarkRow d n
           → mark_rank n ≤ mark_rank (row_before d.arrivals k x)
       by_place zero low less f =
           let p = place_of_mark d n in
@@ -169,7 +174,8 @@ module _ {d : BookState} {places : List ℕ} (held : IsHeld d places) where
   row_comes k x low = comes (element_at branch_id d.plan.branches (mark_of d.arrivals k x).branch) refl
     where
       comes : (o : Option Branch) → element_at branch_id d.plan.branches (mark_of d.arrivals k x).branch ≡ o
-          → ComesBefore d.plan (before_in o (mark_of d.arrivals k x) (row_before d.arrivals k x)) (mark_of d.arrivals k x)
+          → ComesBefore d.plan (before_in o (mark_of d.arrivals k x) (row_before d.arrivals k x))
+          (mark_of d.arrivals k x)
       comes None none =
           let m = mark_of d.arrivals k x in
           let there = (mark_placed d.plan m held.right.core.sound (row_is k x low)).there in
@@ -187,7 +193,8 @@ module _ {d : BookState} {places : List ℕ} (held : IsHeld d places) where
           sound.branches_sound.forked) in
           let is : branch.id ≡ m.branch = own.0 in
           let later = own.1.later in
-          let from : branch.fork ≤ m.generation = rw found at (mark_placed p m sound (row_is k x low)).from_fork in
+          let from : branch.fork ≤ m.generation = rw found at
+          (mark_placed p m sound (row_is k x low)).from_fork in
           either_way (branch.fork == m.generation)
           (λ hit.
           rw hit
@@ -230,7 +237,8 @@ pub record StandsIn (d : BookState) (b : Bookmark) : Type 0 where
   pub is : (x : TextRow) → (get_or d.texts place x).key ≡ b
 
 module _ {d : BookState} {places : List ℕ} (held : IsHeld d places) where
-  pub bookmark_row : (id : ℕ) → bookmark_in d.plan.bookmarks id ≡ option_map (λ (r : TextRow). r.key) (text_at d id)
+  pub bookmark_row : (id : ℕ) → bookmark_in d.plan.bookmarks id
+      ≡ option_map (λ (r : TextRow). r.key) (text_at d id)
   bookmark_row id =
       sym (first_is d.plan.bookmarks id)
       ∙ ap (row_at bookmark_rank id) (sym held.right.bookmarks)
@@ -250,7 +258,8 @@ module _ {d : BookState} {places : List ℕ} (held : IsHeld d places) where
   pub stands_in : (id : ℕ) (b : Bookmark) → bookmark_in d.plan.bookmarks id ≡ Some b → StandsIn d b
   stands_in id b is = by_row (text_at d id) refl (sym (bookmark_row id) ∙ is)
     where
-      by_row : (o : Option TextRow) → text_at d id ≡ o → option_map (λ (r : TextRow). r.key) o ≡ Some b → StandsIn d b
+      by_row : (o : Option TextRow) → text_at d id ≡ o → option_map (λ (r : TextRow). r.key) o ≡ Some b
+          → StandsIn d b
       by_row None found named = absurd cc
       by_row (Some r) found named =
           let at = stands (by_key bookmark_rank) id d.texts r held.ids_rise found in

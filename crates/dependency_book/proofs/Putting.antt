@@ -1,5 +1,6 @@
 -- Books in which something is put in a row.
 use Rattle.std.proofs.Common.{◌≡◌, ℕ, ◌≤◌, ◌^◌, ◌∙◌, true, false, List, refl, sym, ap, subst, arith, Some}
+use Rattle.std.proofs.lemmas.Bool.Decides.{nat_tests}
 use Rattle.std.specs.Prelude.{if◌then◌else◌, ◌==◌, map, Option, None}
 use Rattle.worlds.specs.World.{World}
 use Rattle.schedule.specs.declared.document.Bookmark.{Bookmark}
@@ -21,7 +22,7 @@ use Rattle.dependency_book.specs.Right.{IsRight, IsGiven}
 use Rattle.dependency_book.specs.RowState.{state_map, job_of}
 use Rattle.dependency_book.specs.Rows.{ArrivalRow, keys, state_at, put, bookmark_rank}
 use Rattle.ranked_rows.specs.Rows.{place_in}
-use Rattle.document_marks.proofs.Shared.Ranks.{apart, has_mark, rank_is}
+use Rattle.document_marks.proofs.Shared.Ranks.{has_mark, rank_test}
 use Rattle.desk_events.proofs.Shared.Marks.{mark_near, same_mark}
 use Rattle.dependency_book.proofs.Outs.{held_by}
 use Rattle.dependency_book.proofs.Standing.{has, keys-put, state_at-put_same, state_at-put_other, place_in-keys, count-put}
@@ -35,7 +36,8 @@ use Rattle.dependency_book.specs.Core.{core_of}
 
 -- a book in which something is put is right
 
-pub put_right : (d e : BookState) (need : Need) (s : RowState Value) → IsRight d → CanBePut d need s → Puts need s d e
+pub put_right : (d e : BookState) (need : Need) (s : RowState Value) → IsRight d → CanBePut d need s
+    → Puts need s d e
     → IsRight e
 put_right d e need s right can puts =
     let plan = puts.book.document.plan in
@@ -84,7 +86,8 @@ has_row d m right can =
       near = mark_near d.plan m right.core.sound there;
     }
 
-pub arrival_puts : (d : BookState) (m : Mark) (s : RowState World) → IsRight d → can_change d.plan (step_to m) ≡ true
+pub arrival_puts : (d : BookState) (m : Mark) (s : RowState World) → IsRight d
+    → can_change d.plan (step_to m) ≡ true
     → Puts (step_to m) (state_map pattern s) d (with_arrival d m s)
 arrival_puts d m s right can =
     let h = has_row d m right can in
@@ -109,24 +112,14 @@ arrival_puts d m s right can =
           omega (arith, count, was, is);
     }
   where
-    here : HasRow d m → arrival_row (with_arrival d m s) m ≡ s
-    here h = rw h.off (state_at-put_same mark_rank (mark_rank m) s d.arrivals h.there)
-
-    elsewhere : HasRow d m → (n : Mark) → is_same m n ≡ false → arrival_row (with_arrival d m s) n ≡ arrival_row d n
-    elsewhere h n miss =
-        let other : mark_rank m ≡ mark_rank n → ⊥ = λ same. apart m n miss (sym (rank_is n m h.near (sym same))) in
-        either_way (is_start n) (λ start. rw start refl)
-        (λ off. rw off (state_at-put_other mark_rank (mark_rank m) (mark_rank n) s d.arrivals other))
-
     arrival_rows : HasRow d m → (other : Need) → row_of (with_arrival d m s) other ≡
         (if is_need (step_to m) other then state_map pattern s else row_of d other)
     arrival_rows h (View id) = refl
     arrival_rows h (Step b g) =
         let n = mark_at b g in
-        either_way (is_same m n)
-        (λ hit. rw hit
-        (ap (state_map pattern) (ap (arrival_row (with_arrival d m s)) (sym (same_mark m n hit)) ∙ here h)))
-        (λ miss. rw miss (ap (state_map pattern) (elsewhere h n miss)))
+        let same = state_at-put_same mark_rank (mark_rank m) s d.arrivals h.there in
+        let other = state_at-put_other mark_rank (mark_rank m) (mark_rank n) s d.arrivals in
+        grind (arith, nat_tests, rank_test m n h.near, same, other, h.off)
 
 pub text_puts : (d : BookState) (id : ℕ) (s : RowState (List ℕ)) → keys d.texts ≡ d.plan.bookmarks
     → can_change d.plan (View id) ≡ true → Puts (View id) (state_map text s) d (with_text d id s)
@@ -134,11 +127,17 @@ text_puts d id s bookmarks can =
     let there : has bookmark_rank id (keys d.texts) ≡ true = ap (has bookmark_rank id) bookmarks ∙ can in
     record {
       book = record {
-        document = record { table = refl; plan = refl; marks = refl; bookmarks = keys-put bookmark_rank id s d.texts };
+        document = record {
+          table = refl;
+          plan = refl;
+          marks = refl;
+          bookmarks = keys-put bookmark_rank id s
+              d.texts;
+        };
         entries = refl;
         refused = refl;
       };
-      rows = text_rows d id s there;
+      rows = text_rows there;
       wanting =
           let count = count-put bookmark_rank id s d.texts there in
           let was = missing-map text (text_row d id) in
@@ -146,23 +145,19 @@ text_puts d id s bookmarks can =
           omega (arith, count, was, is);
     }
   where
-    text_rows : (d : BookState) (id : ℕ) (s : RowState (List ℕ)) → has bookmark_rank id (keys d.texts) ≡ true
-        → (other : Need)
-        → row_of (with_text d id s) other ≡ (if is_need (View id) other then state_map text s else row_of d other)
-    text_rows d id s there (Step b n) = refl
-    text_rows d id s there (View n) =
-        either_way (id == n)
-        (λ hit. rw hit
-        (ap (state_map text)
-        (ap (λ k. state_at bookmark_rank k (put bookmark_rank id s d.texts)) (sym (true_eq id n hit))
-        ∙ state_at-put_same bookmark_rank id s d.texts there)))
-        (λ miss. rw miss
-        (ap (state_map text)
-        (state_at-put_other bookmark_rank id n s d.texts (λ same. clash (id == n) (eq_true id n same) miss))))
+    text_rows : has bookmark_rank id (keys d.texts) ≡ true → (other : Need)
+        → row_of (with_text d id s) other
+        ≡ (if is_need (View id) other then state_map text s else row_of d other)
+    text_rows there (Step b n) = refl
+    text_rows there (View n) =
+        let same = state_at-put_same bookmark_rank id s d.texts there in
+        let other = state_at-put_other bookmark_rank id n s d.texts in
+        grind (arith, nat_tests, same, other)
 
 -- the book is held as before
 
-same_places : (xs ys : List ArrivalRow) (bs : List Bookmark) → keys xs ≡ keys ys → places_of xs bs ≡ places_of ys bs
+same_places : (xs ys : List ArrivalRow) (bs : List Bookmark) → keys xs ≡ keys ys
+    → places_of xs bs ≡ places_of ys bs
 same_places xs ys bs same =
     ap (λ (f : Bookmark → ℕ). map f bs)
     (λ i b. (place_in-keys mark_rank (mark_rank (bookmark_mark b)) xs
@@ -193,7 +188,8 @@ pub view_no_pattern : (d : BookState) (id : ℕ) (w : World) → CanBePut d (Vie
 view_no_pattern d id w can =
     let c = core_of d in
     by_bookmark (bookmark_in d.plan.bookmarks id)
-    (subst (Stands d.entries d.plan (View id)) (put_there (View id) (holds (pattern w)) c) (can.right.stands (View id)))
+    (subst (Stands d.entries d.plan (View id)) (put_there (View id) (holds (pattern w)) c)
+    (can.right.stands (View id)))
   where
     by_bookmark : (o : Option Bookmark) → text_wanted d.plan o ≡ Some (pattern w) → ⊥
     by_bookmark None h = cc
@@ -204,5 +200,6 @@ pub step_no_text : (d : BookState) (branch mark : ℕ) (bytes : List ℕ)
 step_no_text d branch mark bytes can =
     let need = Step branch mark in
     let bad : Some (pattern (arrival d.plan branch mark)) ≡ Some (text bytes) =
-    subst (Stands d.entries d.plan need) (put_there need (holds (text bytes)) (core_of d)) (can.right.stands need) in
+    subst (Stands d.entries d.plan need) (put_there need (holds (text bytes)) (core_of d))
+    (can.right.stands need) in
     cc

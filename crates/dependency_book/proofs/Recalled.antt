@@ -38,14 +38,16 @@ use Rattle.desk_events.specs.Entry.{Entry, steps}
 use Rattle.step_facts.specs.Same.{Asked}
 
 -- a step that is remembered was given before
-pub given_before : (entries : List Entry) (facts : List Fact) (s : Stepping) (found : Option (Arc World Global))
+pub given_before : (entries : List Entry) (facts : List Fact) (s : Stepping)
+    (found : Option (Arc World Global))
     (plane : Arc World Global) → AreGiven entries facts → found ≡ Some plane
     → option_map (λ p. arc_value p) found ≡ known facts s → WasGiven entries s
 given_before entries facts s found plane given is knows =
     given s (subst IsSome (sym (ap (option_map (λ p. arc_value p)) is) ∙ knows) refl)
 
 -- and still, where a step that was given is remembered beside others
-pub given_too : (entries : List Entry) (old new : List Fact) (s : Stepping) (number : ℕ) → AreGiven entries old
+pub given_too : (entries : List Entry) (old new : List Fact) (s : Stepping) (number : ℕ)
+    → AreGiven entries old
     → AddsOnly s old new → slice_get entries number ≡ Some (steps (step_said s)) → AreGiven entries new
 given_too entries old new s number given adds there other h = elim (adds other h) [
   | inl same ↦ record {
@@ -87,7 +89,8 @@ module _ {d : BookState} {mark : Mark} {s : Stepping} (h : CanBeEntered d mark s
   pub can_enter : (w : World) → IsRight d → w ≡ world_after s → CanBePut d (step_to mark) (Known (pattern w))
   can_enter w right is = record {
     there = h.there;
-    right = subst (λ v. IsRightCore (put (step_to mark) (holds (pattern v)) (core_of d))) (earlier_comes ∙ sym is)
+    right = subst (λ v. IsRightCore (put (step_to mark) (holds (pattern v)) (core_of d)))
+        (earlier_comes ∙ sym is)
         (recalls_right (core_of d) mark h.earlier.number h.earlier.step right.core can_recall);
     out = tt;
   }

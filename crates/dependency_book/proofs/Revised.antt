@@ -60,7 +60,8 @@ after_edit d q felt marks = record {
 -- the marks that stay
 
 -- what is kept for a key of a rank, where each key of that rank says the same
-kept_key : {K V : Type 0} (rank : K → ℕ) (keeps : K → Bool) (n : ℕ) (rows : List (Row K V)) (b : Bool) (ks : List K)
+kept_key : {K V : Type 0} (rank : K → ℕ) (keeps : K → Bool) (n : ℕ) (rows : List (Row K V)) (b : Bool)
+    (ks : List K)
     → AllByRecursion (λ k. rank k ≡ n → keeps k ≡ b) ks
     → kept_for (λ k was. keeps k) (row_at (by_key rank) n rows) (row_at rank n ks)
     ≡ (if has rank n ks && b then state_at rank n rows else Empty)
@@ -72,7 +73,8 @@ kept_key rank keeps n rows b (k ∷ ks) same =
 keeps_one : (branches : List Branch) (felt : Option Mark) (m : Mark) (marks : List Mark)
     → AllByRecursion (λ (n : Mark). n.generation ≤ 2 ^ 60) marks
     → AllByRecursion
-    (λ (n : Mark). mark_rank n ≡ mark_rank m → keeps_arrival branches felt n ≡ keeps_arrival branches felt m) marks
+    (λ (n : Mark). mark_rank n ≡ mark_rank m → keeps_arrival branches felt n ≡ keeps_arrival branches felt m)
+    marks
 keeps_one branches felt m [] near = tt
 keeps_one branches felt m (n ∷ marks) near = (
   λ same. ap (keeps_arrival branches felt) (sym (rank_is m n near.0 (sym same))),
@@ -99,10 +101,12 @@ arrivals_stay d q felt marks m was are =
 -- the bookmarks that stay
 
 kept_text : (branches : List Branch) (felt : Option Mark) (id : ℕ) (rows : List TextRow) (o : Option Bookmark)
-    → kept_for (bookmark_stays branches felt) (row_at (by_key bookmark_rank) id rows) o ≡ stays_for branches felt o
+    → kept_for (bookmark_stays branches felt) (row_at (by_key bookmark_rank) id rows) o
+    ≡ stays_for branches felt o
     (row_at bookmark_rank id (keys rows)) (state_at bookmark_rank id rows)
 kept_text branches felt id rows None = refl
-kept_text branches felt id rows (Some b) = kept_at-first bookmark_rank (bookmark_stays branches felt b) id rows
+kept_text branches felt id rows (Some b) = kept_at-first bookmark_rank (bookmark_stays branches felt b) id
+    rows
 
 texts_after : (d : BookState) (asked : Asked) (felt : Option Mark) (marks : List Mark) (id : ℕ)
     → MayBeFelt d.plan asked felt → keys d.texts ≡ d.plan.bookmarks
@@ -147,7 +151,8 @@ kept_core asked felt old new keeps (View id) = grind (arith, keeps.texts id)
 
 kept_out : (asked : Asked) (felt : Option Mark) (d e : BookState) (need : Need) (job : Job)
     → KeepsRows asked felt d e → expected e need ≡ Some job → expected d need ≡ Some job
-kept_out asked felt d e (Step branch mark) job keeps out = grind (arith, keeps.arrivals (mark_at branch mark), out)
+kept_out asked felt d e (Step branch mark) job keeps out = grind
+    (arith, keeps.arrivals (mark_at branch mark), out)
 kept_out asked felt d e (View id) job keeps out = grind (arith, keeps.texts id, out)
 
 -- an edit keeps just this of a book, which is right afterwards
@@ -163,7 +168,8 @@ kept_desk d asked felt q = record {
 }
 
 -- the desk after the edit
-edited_core : (d : BookState) (asked : Asked) (felt : Option Mark) (e : BookState) → refusal d.plan asked ≡ None
+edited_core : (d : BookState) (asked : Asked) (felt : Option Mark) (e : BookState)
+    → refusal d.plan asked ≡ None
     → e.plan ≡ (changed d.plan asked).plan → KeepsRows asked felt d e
     → core_of e ≡ after_event (core_of d) (edits asked felt)
 edited_core d asked felt e free after keeps =
@@ -173,23 +179,28 @@ edited_core d asked felt e free after keeps =
     ∙ ap (kept_desk d asked felt) after
     ∙ sym (ap (λ o. core_after_edit (core_of d) asked felt (unless_refused o (changed d.plan asked))) free)
 
-felt_core : (d : BookState) (asked : Asked) (felt : Option Mark) (q : Plan) → IsFelt (arrival_known d) d.plan asked q felt
+felt_core : (d : BookState) (asked : Asked) (felt : Option Mark) (q : Plan)
+    → IsFelt (arrival_known d) d.plan asked q felt
     → IsFelt (arrival_in (core_of d)) d.plan asked q felt
 felt_core d asked felt q h = subst (λ known. IsFelt known d.plan asked q felt) (arrives_same d) h
 
-edit_revises : (d : BookState) (asked : Asked) (felt : Option Mark) (marks : List Mark) → refusal d.plan asked ≡ None
+edit_revises : (d : BookState) (asked : Asked) (felt : Option Mark) (marks : List Mark)
+    → refusal d.plan asked ≡ None
     → IsRight d → BookFeels d asked felt → IsSound (changed d.plan asked).plan
     → AreMarksOf (changed d.plan asked).plan marks
     → Revises asked d (after_edit d (changed d.plan asked).plan felt marks)
 edit_revises d asked felt marks free right is_felt sound are =
     let q = (changed d.plan asked).plan in
     let e = after_edit d q felt marks in
-    let keeps = edit_keeps d asked felt marks right (may_be_felt (arrival_known d) d.plan q asked felt is_felt) are in (
+    let keeps = edit_keeps d asked felt marks right
+    (may_be_felt (arrival_known d) d.plan q asked felt is_felt) are in (
       record { felt = felt; is = is_felt; keeps = keeps },
       record {
         core = subst IsRightCore (sym (edited_core d asked felt e free refl keeps))
-            (edits_right_on (core_of d) asked felt right.core (λ _. sound) (felt_core d asked felt q is_felt));
-        marks = subst (AreMarksOf q) (sym (keys-remade mark_rank (mark_stays q.branches felt) d.arrivals marks)) are;
+            (edits_right_on (core_of d) asked felt right.core (λ _. sound)
+            (felt_core d asked felt q is_felt));
+        marks = subst (AreMarksOf q)
+            (sym (keys-remade mark_rank (mark_stays q.branches felt) d.arrivals marks)) are;
         bookmarks = keys-remade bookmark_rank (bookmark_stays q.branches felt) d.texts q.bookmarks;
         out = λ need job out.
             let h = right.out need job (kept_out asked felt d e need job keeps out) in
@@ -209,17 +220,12 @@ with_rows d q arrivals texts = record {
 }
 
 -- rows that were made of a book's rows after an edit
-pub revises : (d : BookState) (q : Plan) (asked : Asked) (edited : Edited) (arrivals : List ArrivalRow)
-    (texts : List TextRow) (felt : Option Mark) (rows : Rows) → IsRight d → change d.plan asked ≡ Ok (made q edited)
-    → arrivals ≡ d.arrivals → texts ≡ d.texts → BookFeels d asked felt → AreRemade q arrivals texts felt rows
+pub revises : (d : BookState) (q : Plan) (asked : Asked) (edited : Edited) (felt : Option Mark) (rows : Rows)
+    → IsRight d → change d.plan asked ≡ Ok (made q edited) → BookFeels d asked felt
+    → AreRemade q d.arrivals d.texts felt rows
     → Revises asked d (with_rows d q rows.arrivals.items rows.texts.items)
-revises d q asked edited arrivals texts felt rows right is marks bookmarks is_felt h =
-    let made_of : with_rows d q rows.arrivals.items rows.texts.items ≡ after_edit d q felt h.marks =
-    ap₂ (with_rows d q)
-    (h.arrivals_are ∙ ap (λ was. remade_rows mark_rank (mark_stays q.branches felt) was h.marks) marks)
-    (h.texts_are
-    ∙ ap (λ was. remade_rows bookmark_rank (bookmark_stays q.branches felt) was q.bookmarks) bookmarks) in
-    subst (Revises asked d) (sym made_of)
+revises d q asked edited felt rows right is is_felt h =
+    subst (Revises asked d) (sym (ap₂ (with_rows d q) h.arrivals_are h.texts_are))
     (subst (λ (c : Changed). IsSound c.plan → AreMarksOf c.plan h.marks
     → Revises asked d (after_edit d c.plan felt h.marks))
     (accepted (refusal d.plan asked) (changed d.plan asked) (made q edited) is)

@@ -28,12 +28,14 @@ pub all_keys : {K V : Type 0} (P : K → Type 0) (rows : List (Row K V)) → All
 all_keys P [] all = tt
 all_keys P (r ∷ rs) all = (all.0, all_keys P rs all.1)
 
-pub ranked_by : {K V : Type 0} (rank : K → ℕ) (rows : List (Row K V)) → IdsRise rank (keys rows) → IsRanked rank rows
+pub ranked_by : {K V : Type 0} (rank : K → ℕ) (rows : List (Row K V)) → IdsRise rank (keys rows)
+    → IsRanked rank rows
 ranked_by rank [] rise = tt
 ranked_by rank (r ∷ rs) rise = (all_keys _ rs rise.0, ranked_by rank rs rise.1)
 
 -- what holds at each place holds of each element
-pub all_at : {X : Type 0} (P : X → Type 0) (xs : List X) → ((k : ℕ) (d : X) → k < length xs → P (get_or xs k d))
+pub all_at : {X : Type 0} (P : X → Type 0) (xs : List X)
+    → ((k : ℕ) (d : X) → k < length xs → P (get_or xs k d))
     → AllByRecursion P xs
 all_at P [] f = tt
 all_at P (x ∷ xs) f = (f 0 x (omega arith), all_at P xs (λ k d low. f (suc k) d (omega (arith, low))))
@@ -105,7 +107,13 @@ module _ {K V : Type 0} (rank : K → ℕ) (n : ℕ) where
   put_there s [] k d ranked low is = absurd (omega (arith, low))
   put_there s (r ∷ rs) zero d ranked low is = grind (arith, nat_tests)
   put_there s (r ∷ rs) (suc k) d ranked low is =
-      grind (arith, nat_tests, above_at (by_key rank) (rank r.key) rs k d ranked.0, put_there s rs k d ranked.1)
+      grind (
+        arith,
+        nat_tests,
+        above_at (by_key rank) (rank r.key) rs k d ranked.0,
+        put_there s rs k d
+            ranked.1,
+      )
 
   -- and nowhere where there is none
   pub put_absent : (s : RowState V) (rows : List (Row K V)) → row_at (by_key rank) n rows ≡ None
@@ -125,7 +133,8 @@ module _ {K V : Type 0} (rank : K → ℕ) (n : ℕ) where
       grind (arith, nat_tests, was, hit, miss, count-put s rs)
 
 -- what stands at the rank of a row
-pub state_at-row : {K V : Type 0} (rank : K → ℕ) (rows : List (Row K V)) (k : ℕ) (d : Row K V) → IsRanked rank rows
+pub state_at-row : {K V : Type 0} (rank : K → ℕ) (rows : List (Row K V)) (k : ℕ) (d : Row K V)
+    → IsRanked rank rows
     → k < length rows → state_at rank (by_key rank (get_or rows k d)) rows ≡ (get_or rows k d).state
 state_at-row rank rows k d ranked low =
     let n = by_key rank (get_or rows k d) in

@@ -43,7 +43,8 @@ where_each d asked branch acts gs are =
       λ all g on low.
           any_so (λ k. k == g) P gs (λ k here hit. subst P (true_eq k g hit) here) all
           (among g ∙ and_from (acts_on acts g) (nat_le g far) on (le_true g far low)),
-      λ h. each_listed P gs (λ g there. let parts = and_parts (acts_on acts g) (nat_le g far) (sym (among g) ∙ there) in
+      λ h. each_listed P gs
+          (λ g there. let parts = and_parts (acts_on acts g) (nat_le g far) (sym (among g) ∙ there) in
           h g parts.0 (true_le g far parts.1)),
     )
 

@@ -57,7 +57,8 @@ use Rattle.dependency_book.proofs.Shared.Recalling.{same_book}
 
 -- a row that expects a job
 
-pub may_change : (p : Plan) (m : Mark) → is_start m ≡ false → is_mark p m ≡ true → can_change p (step_to m) ≡ true
+pub may_change : (p : Plan) (m : Mark) → is_start m ≡ false → is_mark p m ≡ true
+    → can_change p (step_to m) ≡ true
 may_change p m off there = grind (arith, off, there)
 
 -- the row may change
@@ -75,18 +76,25 @@ expected_row d (Step b g) job right some =
 
 -- a job for what is needed next
 
-in_has : (bs : List Bookmark) (id : ℕ) (b : Bookmark) → bookmark_in bs id ≡ Some b → has_id bookmark_id bs id ≡ true
+in_has : (bs : List Bookmark) (id : ℕ) (b : Bookmark) → bookmark_in bs id ≡ Some b
+    → has_id bookmark_id bs id ≡ true
 in_has [] id b is = absurd cc
 in_has (c ∷ bs) id b is = grind (arith, nat_tests, in_has bs id b)
 
 next_row : (d : BookState) (need : Need) → IsNext d (Some need)
     → (can_change d.plan need ≡ true) × (row_of d need ≡ Empty)
-next_row d (Step b m) next =
-    (may_change d.plan (mark_at b m) next.step.can.led.above next.step.can.led.is, rw next.step.can.empty refl)
+next_row d (Step b m) next = (
+  may_change d.plan (mark_at b m) next.step.can.led.above next.step.can.led.is,
+  rw next.step.can.empty
+      refl,
+)
 next_row d (View id) next =
     let b = next.bookmark in
-    let can = next.can in
-    (rw next.named at (in_has d.plan.bookmarks b.id b can.there), ap (state_map text) (rw next.named at can.empty))
+    let can = next.can in (
+      rw next.named at (in_has d.plan.bookmarks b.id b can.there),
+      ap (state_map text)
+          (rw next.named at can.empty),
+    )
 
 -- its number is given, and then it may be expected
 
@@ -117,7 +125,8 @@ module _ {d : BookState} {need : Need} {job : Job} (next : IsNextJob d need job)
   }
 
   pub kept_more : {places : List ℕ} {cursor : Cursor} {issued : List Place} {facts : List Fact}
-      → IsKept d places cursor issued facts → IsKept (more d job.place) places cursor (issued ++ job.place ∷ []) facts
+      → IsKept d places cursor issued facts → IsKept (more d job.place) places cursor
+      (issued ++ job.place ∷ []) facts
   kept_more {places} {cursor} {issued} kept =
       let held = kept.held in
       let passed = kept.passed in
@@ -138,7 +147,8 @@ module _ {d : BookState} {need : Need} {job : Job} (next : IsNextJob d need job)
         (core.issues_right (core_of d) need (said_at job.place) right.core can_issue);
     out = record {
       own = next.own;
-      entry = ap (slice_get (d.entries ++ said_at job.place ∷ [])) next.number ∙ get_last d.entries (said_at job.place);
+      entry = ap (slice_get (d.entries ++ said_at job.place ∷ [])) next.number
+          ∙ get_last d.entries (said_at job.place);
     };
   }
 
@@ -180,7 +190,8 @@ right_refused d right = record {
   out = λ other out is. let h = right.out other out is in record { own = h.own; entry = h.entry };
 }
 
-pub kept_refused : {d : BookState} {places : List ℕ} {cursor : Cursor} {issued : List Place} {facts : List Fact}
+pub kept_refused : {d : BookState} {places : List ℕ} {cursor : Cursor} {issued : List Place}
+    {facts : List Fact}
     → IsKept d places cursor issued facts → IsKept (with_refusal d) places cursor issued facts
 kept_refused {d} {places} kept =
     let held = kept.held in
@@ -214,9 +225,11 @@ cancelled_if : (n : ℕ) (here : Bool) (place : Place) (s : RowState Value) → 
     → (if here then Empty else s) ≡ cancelled n s
 cancelled_if n here place s out = grind (arith, nat_tests, out)
 
-core_answered_if : (job : Job) (outcome : Result Value EvolveFault) (here : Bool) (place : Place) (s : RowState Value)
+core_answered_if : (job : Job) (outcome : Result Value EvolveFault) (here : Bool) (place : Place)
+    (s : RowState Value)
     → OutIf here job.number place s
-    → core_answered (said_of job outcome) (plain_row s) ≡ (if here then plain_row (given_by outcome) else plain_row s)
+    → core_answered (said_of job outcome) (plain_row s)
+    ≡ (if here then plain_row (given_by outcome) else plain_row s)
 core_answered_if job outcome here place s out = grind (arith, nat_tests, out)
 
 core_cancelled_if : (n : ℕ) (here : Bool) (place : Place) (s : RowState Value) → OutIf here n place s
@@ -243,7 +256,8 @@ module _ {d : BookState} (need : Need) {n : ℕ} {place : Place} (right : IsRigh
       by_job (Some j) is miss =
           eq_false j.number n
           (λ same. clash (is_need need other)
-          (subst (λ k. is_need need k ≡ true) (once d need other one j right out is (sym same)) (need_same need)) miss)
+          (subst (λ k. is_need need k ≡ true) (once d need other one j right out is (sym same))
+          (need_same need)) miss)
 
   cancelled_put : after_event (core_of d) (cancels n) ≡ put need nothing (core_of d)
   cancelled_put =
@@ -265,13 +279,15 @@ module _ {d : BookState} (need : Need) {n : ℕ} {place : Place} (right : IsRigh
     follows = record { entered = []; recalls = put_core d e need Empty puts ∙ sym cancelled_put };
   }
 
-  pub put_cancels : (e : BookState) → Puts need Empty d e → (other : Need) → row_of e other ≡ cancelled n (row_of d other)
+  pub put_cancels : (e : BookState) → Puts need Empty d e → (other : Need)
+      → row_of e other ≡ cancelled n (row_of d other)
   put_cancels e puts other =
       puts.rows other ∙ cancelled_if n (is_need need other) place (row_of d other) (one_out other)
 
 -- no row expects a job where none has its number, or the one that has is at another place
 
-pub none_numbered : (d : BookState) (job : Job) → ((need : Need) → has_number job.number (expected d need) ≡ false)
+pub none_numbered : (d : BookState) (job : Job)
+    → ((need : Need) → has_number job.number (expected d need) ≡ false)
     → (need : Need) → is_job job (expected d need) ≡ false
 none_numbered d job none need = other_job (expected d need) (none need)
   where
@@ -285,7 +301,8 @@ elsewhere {d} need {place} job right out apart other =
     elsewhere_if job (is_need need other) place (row_of d other) (one_out need right out other) apart
 
 -- then nothing changes
-pub none_takes : (d : BookState) {answer : JobResult} → ((need : Need) → is_job answer.job (expected d need) ≡ false)
+pub none_takes : (d : BookState) {answer : JobResult}
+    → ((need : Need) → is_job answer.job (expected d need) ≡ false)
     → Takes answer d d NotExpected
 none_takes d none = record {
   filled = (none, refl);
@@ -309,12 +326,14 @@ pub record IsAwaited (d : BookState) (need : Need) (place : Place) (answer : Job
   pub says : IsRightAnswer answer.job answer.limit answer.outcome
 
 -- a job that found no room is a step's
-step_expects : (d : BookState) (need : Need) (place : Place) (answer : JobResult) → IsAwaited d need place answer
+step_expects : (d : BookState) (need : Need) (place : Place) (answer : JobResult)
+    → IsAwaited d need place answer
     → HasNoRoom answer.limit (entry_of answer.job.place) → is_job answer.job (expected d need) ≡ true
     → StepExpects d answer
 step_expects d (Step b g) place answer h spent is =
     let m = mark_at b g in
-    let can = expected_row d (Step b g) (record { number = answer.job.number; place = place }) h.right h.out in
+    let can = expected_row d (Step b g) (record { number = answer.job.number; place = place }) h.right
+    h.out in
     record { mark = m; above = grind (arith, can); noted = grind (arith, can); row = is; spent = spent }
 step_expects d (View id) place answer h spent is =
     absurd (not_text (entry_of answer.job.place) (bookmark_in d.plan.bookmarks id) answer.limit spent
@@ -327,12 +346,14 @@ step_expects d (View id) place answer h spent is =
     not_text (entry.Step s) (Some b) limit is h = cc
     not_text (entry.View r) o limit is h = is
 
-module _ {d : BookState} {need : Need} {place : Place} {answer : JobResult} (h : IsAwaited d need place answer) where
+module _ {d : BookState} {need : Need} {place : Place} {answer : JobResult}
+    (h : IsAwaited d need place answer) where
   -- it is the value of the entry of its number
   answer_true : IsTrueAnswer d.entries (answer_said answer)
   answer_true = by_outcome answer.outcome h.says.value_is
     where
-      by_outcome : (o : Result Value EvolveFault) → IfOk o (λ found. found ≡ value (entry_of answer.job.place))
+      by_outcome : (o : Result Value EvolveFault) → IfOk o
+          (λ found. found ≡ value (entry_of answer.job.place))
           → IsTrueAnswer d.entries (said_of answer.job o)
       by_outcome (Err fault) is = tt
       by_outcome (Ok v) is = record {
@@ -345,7 +366,8 @@ module _ {d : BookState} {need : Need} {place : Place} {answer : JobResult} (h :
       ≡ put need (plain_row (given_by answer.outcome)) (core_of d)
   collected_put =
       ap (desk d.plan d.entries)
-      (fun_ext (λ other. core_answered_if answer.job answer.outcome (is_need need other) place (row_of d other)
+      (fun_ext (λ other. core_answered_if answer.job answer.outcome (is_need need other) place
+      (row_of d other)
       (one_out need h.right h.out other)))
 
   -- what the answer gives may stand in the row
@@ -367,7 +389,8 @@ module _ {d : BookState} {need : Need} {place : Place} {answer : JobResult} (h :
   answer_takes e puts = record {
     filled = by_outcome answer.outcome refl;
     rows = λ other. puts.rows other
-        ∙ answered_if answer (is_need need other) place (row_of d other) h.index (one_out need h.right h.out other);
+        ∙ answered_if answer (is_need need other) place (row_of d other) h.index
+        (one_out need h.right h.out other);
     book = puts.book;
     event = collects_by answer.outcome;
   }
@@ -394,7 +417,8 @@ module _ {d : BookState} {need : Need} {place : Place} {answer : JobResult} (h :
 
       by_outcome : (o : Result Value EvolveFault) → answer.outcome ≡ o → IsFilled d e answer (filled_by o)
       by_outcome (Ok v) is =
-          let none = ap missing (expected_state d need (record { number = answer.job.number; place = place }) h.out) in
+          let none = ap missing
+          (expected_state d need (record { number = answer.job.number; place = place }) h.out) in
           let given : missing (given_by answer.outcome) ≡ 0 = rw is refl in
           let count = puts.wanting in
           ((need, here), rw is refl, omega (arith, none, count, given))

@@ -3,11 +3,11 @@ ghost use Rattle.std.specs.Prelude.{◌≡◌, ◌≤◌, ◌+◌, IfOk, [], len
 ghost use Rattle.dependency_book.specs.Held.{places_of};
 ghost use Rattle.dependency_book.specs.Remade.{AreRemade};
 ghost use Rattle.schedule.specs.Asked.{asked_of};
-ghost use Rattle.dependency_book.specs.Room.{HasRoom};
+ghost use Rattle.dependency_book.specs.Room.{HasRoom, HasRoomAfter};
 ghost use Rattle.dependency_book.specs.RowState.{OutsAreOf};
 ghost use Rattle.dependency_book.specs.Rows.{IsRanked, bookmark_rank};
 ghost use Rattle.document_marks.specs.AllMarks.{mark_rank};
-ghost use Rattle.document_marks.specs.MostMarks.{marks_at_most, marks_at_most_after};
+ghost use Rattle.document_marks.specs.MostMarks.{marks_at_most};
 
 use crate::mark::ArrivalRow;
 use crate::remade::AfterEdit;
@@ -42,9 +42,7 @@ impl Room {
         document: &Document,
         edit: &Edit,
     ) -> Result<Room, AllocError>
-        ensures { IfOk result (λ room. HasRoom room
-            (marks_at_most_after document.now (asked_of edit.now))
-            (length document.now.bookmarks + 1)) }
+        ensures { IfOk result (HasRoomAfter document.now (asked_of edit.now)) }
     {
         let marks = marks_at_most_after(document, edit);
         let bookmarks = document.bookmarks().len() + 1;

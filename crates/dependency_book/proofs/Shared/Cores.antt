@@ -1,5 +1,5 @@
 -- The desk of the law that a book shows.
-use Rattle.std.proofs.Common.{ℕ, ◌≡◌, ◌∙◌, Bool, true, false, List, refl, sym, ap, subst, Some}
+use Rattle.std.proofs.Common.{arith, ℕ, ◌≡◌, ◌∙◌, Bool, true, false, List, refl, sym, ap, subst, Some}
 use Rattle.std.specs.Prelude.{IfSome, if◌then◌else◌}
 use Rattle.std.proofs.Math.Path.{fun_ext}
 use Rattle.worlds.specs.World.{World}
@@ -38,8 +38,7 @@ same_core p q es fs r s plan entries rows =
 
 pub plain_if : (b : Bool) (x y : RowState Value)
     → plain_row (if b then x else y) ≡ (if b then plain_row x else plain_row y)
-plain_if true x y = refl
-plain_if false x y = refl
+plain_if b x y = grind arith
 
 -- after something was put in a row
 pub put_core : (d e : BookState) (need : Need) (s : RowState Value) → Puts need s d e
@@ -55,9 +54,7 @@ pub arrives_same : (d : BookState) → arrival_known d ≡ arrival_in (core_of d
 arrives_same d = fun_ext (λ m. of_state (arrival_row d m))
   where
     of_state : (s : RowState World) → known s ≡ world_in (plain_row (state_map pattern s))
-    of_state Empty = refl
-    of_state (Expected job) = refl
-    of_state (Known w) = refl
+    of_state s = grind arith
 
 pub known_arrives : (d : BookState) → IsRight d → Arrives (arrival_known d) d.plan
 known_arrives d right =
@@ -76,16 +73,15 @@ pub expected_state : (d : BookState) (need : Need) (job : Job) → expected d ne
 expected_state d need job out = of_state (row_of d need) out
   where
     of_state : (s : RowState Value) → job_of s ≡ Some job → s ≡ Expected job
-    of_state Empty h = absurd cc
-    of_state (Expected other) h = let same : other ≡ job = cc in ap (λ j. Expected j) same
-    of_state (Known v) h = absurd cc
+    of_state s h = grind arith
 
 pub awaited : (d : BookState) (need : Need) (job : Job) → expected d need ≡ Some job
     → (core_of d).rows need ≡ awaits job.number
 awaited d need job out = ap plain_row (expected_state d need job out)
 
 -- of one number there is one
-pub once : (d : BookState) (a b : Need) (i j : Job) → IsRight d → expected d a ≡ Some i → expected d b ≡ Some j
+pub once : (d : BookState) (a b : Need) (i j : Job) → IsRight d → expected d a ≡ Some i
+    → expected d b ≡ Some j
     → i.number ≡ j.number → a ≡ b
 once d a b i j right here there same =
     right.core.once a b i.number (awaited d a i here) (awaited d b j there ∙ ap awaits (sym same))
@@ -100,7 +96,8 @@ expected_wants d need job right out =
     h.gives ∙ ap (λ e. Some (value e)) entry
 
 -- a text that is known is the one that starting over gives
-pub text_scratch : (d : BookState) (id : ℕ) (b : Bookmark) → IsRight d → bookmark_in d.plan.bookmarks id ≡ Some b
+pub text_scratch : (d : BookState) (id : ℕ) (b : Bookmark) → IsRight d
+    → bookmark_in d.plan.bookmarks id ≡ Some b
     → IfSome (known (text_row d id)) (λ bytes. bytes ≡ scratch d.plan b)
 text_scratch d id b right there = of_state (text_row d id) (λ v is. known_wanted d (View id) v right is)
   where

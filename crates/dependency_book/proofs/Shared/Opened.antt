@@ -22,7 +22,8 @@ unmarked revision m other = grind (arith, other)
 
 pub opened_core : (table : Entries) (revision : ℕ) → core_of (opened table revision) ≡ core.opened revision
 opened_core table revision =
-    same_core (opening revision) (opening revision) [] [] (λ need. plain_row (row_of (opened table revision) need))
+    same_core (opening revision) (opening revision) [] []
+    (λ need. plain_row (row_of (opened table revision) need))
     (core.opened_row revision) refl refl same
   where
     same : (need : Need) → plain_row (row_of (opened table revision) need) ≡ core.opened_row revision need
@@ -38,8 +39,14 @@ opened_held table revision = record {
   places = refl;
   right = record {
     core = subst IsRightCore (sym (opened_core table revision)) (opened_right revision);
-    marks = record
-        { rise = tt; near = tt; above = tt; are = λ m other. sym (unmarked revision m other); few = omega arith };
+    marks = record {
+      rise = tt;
+      near = tt;
+      above = tt;
+      are = λ m other. sym (unmarked revision m other);
+      few = omega
+          arith;
+    };
     bookmarks = refl;
     out = λ need job out. absurd (let none = none_out table revision need in cc);
   };

@@ -16,9 +16,11 @@ few_rows d right =
     let fork = right.core.sound.branches_sound.few in
     let repeated = right.core.sound.few_marks in
     let most =
-    length d.plan.interventions + length d.plan.bookmarks + 2 * length d.plan.branches + repeat_marks d.plan in
+    length d.plan.interventions + length d.plan.bookmarks + 2 * length d.plan.branches + repeat_marks
+    d.plan in
     let marks : length d.arrivals
-    ≤ length d.plan.interventions + length d.plan.bookmarks + 2 * length d.plan.branches + repeat_marks d.plan =
+    ≤ length d.plan.interventions + length d.plan.bookmarks + 2 * length d.plan.branches + repeat_marks d.plan
+    =
     subst (λ n. n ≤ most) (length-map d.arrivals (λ (r : ArrivalRow). r.key)) right.marks.few in
     let texts : length d.texts ≡ length d.plan.bookmarks = sym (length-map d.texts (λ (r : TextRow). r.key))
     ∙ ap length right.bookmarks in

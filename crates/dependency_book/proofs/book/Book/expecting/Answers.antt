@@ -24,10 +24,12 @@ pub returns-clause-row : goal.returns-clause-row
 returns-clause-row c =
     let found = rw c.deref-2.ensures.value at c.in_ok-bookmark.ensures in
     rw (← c.self.view_is)
-    (expects_text c.self.invariant.held c.args.number c.in_ok-bookmark.bookmark c.in_ok-bookmark.place.now found).0
+    (expects_text c.self.invariant.held c.args.number c.in_ok-bookmark.bookmark c.in_ok-bookmark.place.now
+    found).0
 
 pub returns-clause-own : goal.returns-clause-own
 returns-clause-own c =
     let found = rw c.deref-2.ensures.value at c.in_ok-bookmark.ensures in
     rw (← c.self.view_is)
-    (expects_text c.self.invariant.held c.args.number c.in_ok-bookmark.bookmark c.in_ok-bookmark.place.now found).1
+    (expects_text c.self.invariant.held c.args.number c.in_ok-bookmark.bookmark c.in_ok-bookmark.place.now
+    found).1

@@ -12,10 +12,14 @@ returns-then-matches c =
     let new = c.recall_all.new.self in
     let taken = took c.keep_fact.ensures c.into_parts-parts.ensures.parts c.take-filled.ensures.takes in
     let row : c.take-filled.result ≡ Row =
-    elim c.match-matches.branch
-    [ in-Row w ↦ w.in-Row.is | in_default w ↦ absurd (clash c.match-matches.matches c.if-matches.true w.matches-is) ] in
+    elim c.match-matches.branch [
+      | in-Row w ↦ w.in-Row.is
+      | in_default w ↦ absurd
+          (clash c.match-matches.matches c.if-matches.true w.matches-is)
+    ] in
     let h = subst (Filling c.args.answer old new) (sym row)
-    (filled_then (subst (Takes c.args.answer old c.take-filled.new.self) row taken) c.recall_all.ensures.recalls) in
+    (filled_then (subst (Takes c.args.answer old c.take-filled.new.self) row taken)
+    c.recall_all.ensures.recalls) in
     record {
       filled = h.filled;
       fills = h.fills;

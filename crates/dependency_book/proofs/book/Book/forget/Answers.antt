@@ -10,11 +10,13 @@ release-requires c =
 
 pub returns-clause-event : goal.returns-clause-event
 returns-clause-event c =
-    cancel_is c.in_ok-need.need c.expecting.ensures.right c.in_ok-need.ensures.row c.release.new.self c.release.ensures.row
+    cancel_is c.in_ok-need.need c.expecting.ensures.right c.in_ok-need.ensures.row c.release.new.self
+    c.release.ensures.row
 
 pub returns-clause-rows : goal.returns-clause-rows
 returns-clause-rows c =
-    put_cancels c.in_ok-need.need c.expecting.ensures.right c.in_ok-need.ensures.row c.release.new.self c.release.ensures.row
+    put_cancels c.in_ok-need.need c.expecting.ensures.right c.in_ok-need.ensures.row c.release.new.self
+    c.release.ensures.row
 
 pub returns-clause-place : goal.returns-clause-place
 returns-clause-place c =

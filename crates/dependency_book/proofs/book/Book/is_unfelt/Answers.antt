@@ -17,4 +17,5 @@ returns c =
     c.in-Some.ensures ∙ ap (λ (e : BookState). touched_by e.plan asked) c.self.view_is in
     let was = c.in_ok-is_unfelt_where.ensures.0 c.if-not-branch.false in
     IfOk-weaker c.is_unfelt_where-2.result (λ b. IsTrue b ↔ BookIsUnfeltWhere d asked t.branch t.is)
-    (λ b. IsTrue b ↔ BookIsUnfelt d asked) (λ b same. unfelt_later d asked t b is was same) c.is_unfelt_where-2.ensures
+    (λ b. IsTrue b ↔ BookIsUnfelt d asked) (λ b same. unfelt_later d asked t b is was same)
+    c.is_unfelt_where-2.ensures

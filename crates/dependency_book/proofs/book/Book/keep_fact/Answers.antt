@@ -12,7 +12,8 @@ pub invariant_of-self : goal.invariant_of-self
 invariant_of-self c =
     let d = state_of c.self.inside in
     let n = c.args.parts.now.job.number in
-    let given = subst (λ (e : BookState). IsGiven e c.args.parts.now.job) (sym c.self.view_is) (c.if-not-gave.ensures refl) in
+    let given = subst (λ (e : BookState). IsGiven e c.args.parts.now.job) (sym c.self.view_is)
+    (c.if-not-gave.ensures refl) in
     let there : slice_get d.entries n ≡ Some (steps (step_said c.in-Step.step)) =
     given.entry ∙ ap (λ e. Some (said e)) (sym c.at.ensures.entry ∙ c.in-Step.is) in
     record {

@@ -9,7 +9,8 @@ use Rattle.dependency_book.proofs.book.Book.pending.Goals as goal
 pub overflow_cast-result : goal.overflow_cast-result
 overflow_cast-result c =
     let texts = c.self.inside.texts.items in
-    let same : length texts ≡ length c.self.inside.document.bookmarks = sym (length-map texts (λ (r : TextRow). r.key))
+    let same : length texts ≡ length c.self.inside.document.bookmarks = sym
+    (length-map texts (λ (r : TextRow). r.key))
     ∙ ap length c.self.invariant.held.right.bookmarks in
     let few = c.self.invariant.held.right.core.sound.few_bookmarks in
     let most : count_by is_pending texts ≤ length texts = count_by-le-length is_pending texts in
@@ -21,10 +22,12 @@ overflow_cast-result c =
 pub returns-clause-bound : goal.returns-clause-bound
 returns-clause-bound c =
     let texts = c.self.inside.texts.items in
-    let same : length texts ≡ length c.self.inside.document.bookmarks = sym (length-map texts (λ (r : TextRow). r.key))
+    let same : length texts ≡ length c.self.inside.document.bookmarks = sym
+    (length-map texts (λ (r : TextRow). r.key))
     ∙ ap length c.self.invariant.held.right.bookmarks in
     let most : count_by is_pending texts ≤ length texts = count_by-le-length is_pending texts in
     let is : c.pending_count.result ≡ count_by is_pending texts =
     c.pending_count.ensures ∙ ap (count_by is_pending) c.deref.ensures.value in
-    let few : c.pending_count.result ≤ length c.self.inside.document.bookmarks = omega (arith, same, most, is) in
+    let few : c.pending_count.result ≤ length c.self.inside.document.bookmarks = omega
+    (arith, same, most, is) in
     search rules

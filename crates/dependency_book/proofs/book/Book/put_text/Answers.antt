@@ -12,7 +12,8 @@ pub returns-clause-row : goal.returns-clause-row
 returns-clause-row c =
     let can = rw (← c.self.view_is) at c.requires in
     rw (← c.self.view_is, c.put.ensures, c.from.ensures)
-    (text_puts (state_of c.self.inside) c.args.id c.args.state c.self.invariant.held.right.bookmarks can.there)
+    (text_puts (state_of c.self.inside) c.args.id c.args.state c.self.invariant.held.right.bookmarks
+    can.there)
 
 pub returns-clause-right : goal.returns-clause-right
 returns-clause-right c = (invariant_of-self c).held.right

@@ -39,45 +39,35 @@ rows_of-rows-requires-clause-room c =
 
 pub rows_of-rows-requires-clause-own : goal.rows_of-rows-requires-clause-own
 rows_of-rows-requires-clause-own c =
-    let d = state_of c.self.inside in
-    let places = c.self.inside.places.items in
-    let arrivals : c.replace-arrivals.result.items ≡ d.arrivals = rw c.replace-arrivals.ensures.value refl in
-    let texts : c.replace-texts.result.items ≡ d.texts = rw c.replace-texts.ensures.value refl in (
-      subst (λ (rows : List ArrivalRow). OutsAreOf d.table rows) (sym arrivals)
-          (all_own c.self.invariant.held).arrivals,
-      subst (λ (rows : List TextRow). OutsAreOf d.table rows) (sym texts) (all_own c.self.invariant.held).texts,
-    )
+    let own = all_own c.self.invariant.held in
+    rw (c.replace-arrivals.ensures.value, c.replace-texts.ensures.value) (own.arrivals, own.texts)
 
 -- what was made of the book
-made : (c : After-self-1) → Revises (asked_of c.args.edit.now) (state_of c.self.inside)
-    (with_rows
-    (state_of c.self.inside) c.make.new.self c.rows_of-rows.result.arrivals.items c.rows_of-rows.result.texts.items)
+
+abbrev anew : After-self-1 → BookState
+anew c =
+    let rows = c.rows_of-rows.result in
+    with_rows (state_of c.self.inside) c.make.new.self rows.arrivals.items rows.texts.items
+
+made : (c : After-self-1) → Revises (asked_of c.args.edit.now) (state_of c.self.inside) (anew c)
 made c =
-    revises (state_of c.self.inside) c.make.new.self
-    (asked_of c.args.edit.now) c.in_ok-edited.edited c.replace-arrivals.result.items c.replace-texts.result.items
+    revises (state_of c.self.inside) c.make.new.self (asked_of c.args.edit.now) c.in_ok-edited.edited
     c.in_ok-felt.felt c.rows_of-rows.result c.self.invariant.held.right c.in_ok-edited.ensures.ok
-    (rw c.replace-arrivals.ensures.value refl) (rw c.replace-texts.ensures.value refl)
-    (subst (λ (e : BookState). BookFeels e (asked_of c.args.edit.now) c.in_ok-felt.felt)
-    (sym c.self.view_is) c.in_ok-felt.ensures) c.rows_of-rows.ensures
+    (rw (← c.self.view_is) at c.in_ok-felt.ensures)
+    (rw (c.replace-arrivals.ensures.value, c.replace-texts.ensures.value) at c.rows_of-rows.ensures)
 
 pub invariant_of-self-2 : goal.invariant_of-self-2
 invariant_of-self-2 c =
-    let e = with_rows
-    (state_of c.self.inside) c.make.new.self c.rows_of-rows.result.arrivals.items c.rows_of-rows.result.texts.items in
     let places = c.rows_of-rows.result.places.items in
     record {
-      held = held_by e places c.rows_of-rows.ensures.places_are (made c).1;
-      passed = subst (HasPassed e places) (sym c.start-self-inside.ensures) (passed_none e places);
+      held = held_by (anew c) places c.rows_of-rows.ensures.places_are (made c).1;
+      passed = rw c.start-self-inside.ensures (passed_none (anew c) places);
       own = c.self.invariant.own;
       facts = c.self.invariant.facts;
     }
 
 pub returns-clause-keeps : goal.returns-clause-keeps
-returns-clause-keeps c =
-    subst (λ (old : BookState). KeepsUnfelt (asked_of c.args.edit.now) old
-    (with_rows
-    (state_of c.self.inside) c.make.new.self c.rows_of-rows.result.arrivals.items c.rows_of-rows.result.texts.items))
-    c.self.view_is (made c).0
+returns-clause-keeps c = rw (← c.self.view_is) (made c).0
 
 pub returns-clause-right : goal.returns-clause-right
 returns-clause-right c = (made c).1

@@ -8,7 +8,8 @@ use Rattle.dependency_book.proofs.book.Book.revise.Goals as goal
 
 pub returns-clause-ok : goal.returns-clause-ok
 returns-clause-ok c =
-    let same = (recalls_book c.remake.new.self c.recall_all.new.self c.recall_all.ensures.recalls).document.plan in
+    let same = (recalls_book c.remake.new.self c.recall_all.new.self
+    c.recall_all.ensures.recalls).document.plan in
     c.in_ok-edited.ensures.ok ∙ ap (λ (p : Plan). Ok (made p c.in_ok-edited.edited)) (sym same)
 
 pub returns-clause-revises : goal.returns-clause-revises

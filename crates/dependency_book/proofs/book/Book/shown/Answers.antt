@@ -18,4 +18,5 @@ returns-in-None-known c =
 pub returns-in-None : goal.returns-in-None
 returns-in-None c =
     rw (← c.self.view_is)
-    (is_absent c.self.invariant.held c.args.id (rw (c.from.ensures, c.deref.ensures.value) at c.in-None.ensures))
+    (is_absent c.self.invariant.held c.args.id
+    (rw (c.from.ensures, c.deref.ensures.value) at c.in-None.ensures))

@@ -24,9 +24,22 @@ returns-clause-entry c =
       there = rw (← c.self.view_is) row.there;
       view = refl;
       from = rw c.of-mark.ensures at known;
-      cells = rw (c.in_ok-cells_at.ensures, c.of-mark.ensures, c.interventions-interventions.ensures, ← c.self.view_is)
+      cells = rw (
+        c.in_ok-cells_at.ensures,
+        c.of-mark.ensures,
+        c.interventions-interventions.ensures,
+        ←
+            c.self.view_is,
+      )
           refl;
-      name = rw (c.in_ok-copied.ensures, c.name.ensures, c.deref-2.ensures, c.rule-rule.ensures, ← c.self.view_is) refl;
+      name = rw (
+        c.in_ok-copied.ensures,
+        c.name.ensures,
+        c.deref-2.ensures,
+        c.rule-rule.ensures,
+        ←
+            c.self.view_is,
+      ) refl;
       states = rw (c.states.ensures.count, c.deref-3.ensures, c.rule-rule.ensures, ← c.self.view_is) refl;
       generation = refl;
     }
