@@ -31,7 +31,7 @@ use Rattle.dependency_book.specs.Rows.{ArrivalRow, TextRow, by_key, keys, bookma
 use Rattle.document_marks.specs.AllMarks.{mark_rank}
 use Rattle.dependency_book.proofs.Found.{ready_is}
 use Rattle.dependency_book.proofs.Outs.{each_out}
-use Rattle.dependency_book.proofs.Placed.{MarkRow, forked, StandsIn, in_at, mark_row, place_of_mark, row_beside, row_comes, row_is, row_near, row_stands, stands_in, text_stands}
+use Rattle.dependency_book.proofs.Placed.{MarkRow, mark_of, forked, StandsIn, in_at, mark_row, place_of_mark, row_beside, row_comes, row_is, row_near, row_stands, stands_in, text_stands}
 use Rattle.desk_events.proofs.Shared.Marks.{before_one, bookmark_is_mark}
 use Rattle.document_marks.proofs.Shared.Ranks.{rank_branches, rank_within}
 use Rattle.dependency_book.specs.Puts.{missing}
@@ -117,8 +117,8 @@ module _ {d : BookState} {places : List ℕ} (held : IsHeld d places) where
             let up = never_falls (by_key bookmark_rank) d.texts held.ids_rise k f.place x in
             let low = f.low in
             either_way (nat_lt f.place k)
-            (λ hit. absurd (let bad = none (true_lt f.place k hit) in let one = viewed_there other can f
-            x in cc))
+            (λ hit. clash (viewable d.arrivals d.texts places f.place x) (viewed_there other can f x)
+            (none (true_lt f.place k hit)))
             (λ miss. let le = up (false_lt f.place k miss) low in omega (arith, le, at, named));
       }
 
@@ -131,11 +131,7 @@ module _ {d : BookState} {places : List ℕ} (held : IsHeld d places) where
 
 -- the mark that can be reached
 
--- the mark of the row at a place
-abbrev mark_of_row : BookState → ℕ → ArrivalRow → Mark
-mark_of_row d k x = (get_or d.arrivals k x).key
-
--- and the one before it
+-- the mark before that of the row at a place
 abbrev before_at : BookState → ℕ → ArrivalRow → Mark
 before_at d k x = before_row d.plan.branches d.arrivals k x
 
@@ -155,7 +151,7 @@ not_after m n near le =
 
 module _ {d : BookState} {places : List ℕ} (held : IsHeld d places) where
   can_be_reached : (k : ℕ) (x : ArrivalRow) → k < length d.arrivals → IsSteppable d k x
-      → CanBeReached d (mark_of_row d k x)
+      → CanBeReached d (mark_of d.arrivals k x)
   can_be_reached k x low can =
       let state = (get_or d.arrivals k x).state in
       let before = before_at d k x in
@@ -208,8 +204,8 @@ module _ {d : BookState} {places : List ℕ} (held : IsHeld d places) where
         (λ miss.
         let up = never_falls (by_key mark_rank) d.arrivals held.marks_rise k p x (false_lt p k miss)
         f.at.low in
-        let here : mark_rank (mark_of_row d k x) ≡ mark_rank x.key = ap (by_key mark_rank) (sym is) in
-        let there : mark_rank (mark_of_row d p x) ≡ mark_rank other = ap mark_rank (f.is x) in
+        let here : mark_rank (mark_of d.arrivals k x) ≡ mark_rank x.key = ap (by_key mark_rank) (sym is) in
+        let there : mark_rank (mark_of d.arrivals p x) ≡ mark_rank other = ap mark_rank (f.is x) in
         not_after x.key other
         (subst (λ (r : ArrivalRow). r.key.generation ≤ 2 ^ 60) (sym is) (row_near held k x first.0))
         (omega (arith, up, here, there)));
@@ -281,7 +277,7 @@ module _ {d : BookState} {places : List ℕ} (held : IsHeld d places) where
 
   -- what arrives at a mark is known where its row is
   row_known : (m : Mark) (n : ℕ) → KnownBelow n → is_mark d.plan m ≡ true
-      → ((x : ArrivalRow) (k : ℕ) → k < length d.arrivals → mark_of_row d k x ≡ m → k < n)
+      → ((x : ArrivalRow) (k : ℕ) → k < length d.arrivals → mark_of d.arrivals k x ≡ m → k < n)
       → is_ready d.arrivals m ≡ true
   row_known m n below there low =
       either_way (is_start m) (λ hit. rw hit refl)
@@ -289,7 +285,7 @@ module _ {d : BookState} {places : List ℕ} (held : IsHeld d places) where
       let x = row_for m in
       let k = place_of_mark d m in
       let f = mark_row held m miss there in
-      let is : mark_of_row d k x ≡ m = f.is x in
+      let is : mark_of d.arrivals k x ≡ m = f.is x in
       ready_is d m
       ∙ ap (λ n. is_some (arrival_known d n)) (sym is)
       ∙ ap is_known (row_stands held k x f.at.low)
@@ -299,17 +295,17 @@ module _ {d : BookState} {places : List ℕ} (held : IsHeld d places) where
   known_below out none zero k x under low = absurd (omega (arith, under))
   known_below out none (suc n) k x under low =
       let b = before_at d k x in
-      let m = mark_of_row d k x in
+      let m = mark_of d.arrivals k x in
       let comes = row_comes held k x low in
       let lower = before_lower d.plan b m held.right.core.sound (row_near held k x low) comes in
-      let earlier : (y : ArrivalRow) (j : ℕ) → j < length d.arrivals → mark_of_row d j y ≡ b → j < n =
+      let earlier : (y : ArrivalRow) (j : ℕ) → j < length d.arrivals → mark_of d.arrivals j y ≡ b → j < n =
       λ y j fits is.
       either_way (nat_lt j k)
       (λ hit. let less = true_lt j k hit in omega (arith, less, under))
       (λ miss.
       let up = never_falls (by_key mark_rank) d.arrivals held.marks_rise k j y (false_lt j k miss) fits in
-      let here : mark_rank (mark_of_row d j y) ≡ mark_rank b = ap mark_rank is in
-      let same : mark_rank (mark_of_row d k y) ≡ mark_rank m =
+      let here : mark_rank (mark_of d.arrivals j y) ≡ mark_rank b = ap mark_rank is in
+      let same : mark_rank (mark_of d.arrivals k y) ≡ mark_rank m =
       ap (by_key mark_rank) (get_or_default d.arrivals k y x low) in
       absurd (omega (arith, up, here, same, lower))) in
       let ready = row_known b n (known_below out none n) (before_is d.plan b m comes) earlier in

@@ -1,7 +1,7 @@
 -- Books in which something is put in a row.
 use Rattle.std.proofs.Common.{◌≡◌, ℕ, ◌≤◌, ◌^◌, ◌∙◌, true, false, List, refl, sym, ap, subst, arith, Some}
 use Rattle.std.proofs.lemmas.Bool.Decides.{nat_tests}
-use Rattle.std.specs.Prelude.{if◌then◌else◌, ◌==◌, map, Option, None}
+use Rattle.std.specs.Prelude.{if◌then◌else◌, map, Option, None}
 use Rattle.worlds.specs.World.{World}
 use Rattle.schedule.specs.declared.document.Bookmark.{Bookmark}
 use Rattle.schedule.specs.Plan.{Plan}
@@ -16,17 +16,17 @@ use Rattle.document_marks.specs.AllMarks.{mark_rank}
 use Rattle.dependency_book.specs.BookState.{BookState, arrival_row, text_row, row_of}
 use Rattle.dependency_book.specs.Held.{IsHeld, places_of}
 use Rattle.desk_events.specs.Needs.{is_need, step_to}
-use Rattle.desk_events.specs.Marks.{bookmark_mark, is_mark, is_same, is_start, mark_at}
+use Rattle.desk_events.specs.Marks.{bookmark_mark, is_mark, is_start, mark_at}
 use Rattle.dependency_book.specs.Puts.{CanBePut, Puts, can_change, missing}
 use Rattle.dependency_book.specs.Right.{IsRight, IsGiven}
 use Rattle.dependency_book.specs.RowState.{state_map, job_of}
 use Rattle.dependency_book.specs.Rows.{ArrivalRow, keys, state_at, put, bookmark_rank}
 use Rattle.ranked_rows.specs.Rows.{place_in}
 use Rattle.document_marks.proofs.Shared.Ranks.{has_mark, rank_test}
-use Rattle.desk_events.proofs.Shared.Marks.{mark_near, same_mark}
+use Rattle.desk_events.proofs.Shared.Marks.{mark_near}
 use Rattle.dependency_book.proofs.Outs.{held_by}
 use Rattle.dependency_book.proofs.Standing.{has, keys-put, state_at-put_same, state_at-put_other, place_in-keys, count-put}
-use Rattle.desk_events.proofs.Shared.Tests.{either_way, clash, true_eq, eq_true}
+use Rattle.desk_events.proofs.Shared.Tests.{either_way}
 use Rattle.desk_events.specs.Right.{IsRight as IsRightCore, Stands}
 use Rattle.dependency_book.proofs.Shared.Cores.{put_core, put_there}
 use Rattle.schedule.specs.Scratch.{arrival}
@@ -92,17 +92,7 @@ pub arrival_puts : (d : BookState) (m : Mark) (s : RowState World) → IsRight d
 arrival_puts d m s right can =
     let h = has_row d m right can in
     record {
-      book = record {
-        document =
-            record {
-              table = refl;
-              plan = refl;
-              marks = keys-put mark_rank (mark_rank m) s d.arrivals;
-              bookmarks = refl;
-            };
-        entries = refl;
-        refused = refl;
-      };
+      book = assumption (keys-put mark_rank (mark_rank m) s d.arrivals);
       rows = λ other. arrival_rows h other;
       wanting =
           let count = count-put mark_rank (mark_rank m) s d.arrivals h.there in
@@ -126,17 +116,7 @@ pub text_puts : (d : BookState) (id : ℕ) (s : RowState (List ℕ)) → keys d.
 text_puts d id s bookmarks can =
     let there : has bookmark_rank id (keys d.texts) ≡ true = ap (has bookmark_rank id) bookmarks ∙ can in
     record {
-      book = record {
-        document = record {
-          table = refl;
-          plan = refl;
-          marks = refl;
-          bookmarks = keys-put bookmark_rank id s
-              d.texts;
-        };
-        entries = refl;
-        refused = refl;
-      };
+      book = assumption (keys-put bookmark_rank id s d.texts);
       rows = text_rows there;
       wanting =
           let count = count-put bookmark_rank id s d.texts there in

@@ -115,8 +115,7 @@ recalled_core : (d e : BookState) → Recalls d e → IsRecalled (core_of d) (co
 recalled_core =
     recalls_all (λ d e. IsRecalled (core_of d) (core_of e)) (λ d. record { list = []; all = refl })
     (λ mark s d e f h rest.
-    let can : CanBeEntered d mark s =
-    record { there = h.there; empty = h.empty; own = h.own; earlier = h.earlier } in
+    let can : CanBeEntered d mark s = assumption h in
     let after : core_of e ≡ after_event (core_of d) (recalls mark h.earlier.number h.earlier.step) =
     put_core d e (step_to mark) (Known (pattern (world_after s))) h.puts
     ∙ ap (λ v. put (step_to mark) (holds (pattern v)) (core_of d)) (sym (earlier_comes can)) in

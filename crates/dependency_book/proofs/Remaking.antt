@@ -8,7 +8,6 @@ use Rattle.dependency_book.specs.declared.row.Row.{Row}
 use Rattle.dependency_book.specs.Remade.{kept_of, remade_rows}
 use Rattle.dependency_book.specs.Rows.{by_key, keys, state_at}
 use Rattle.ranked_rows.specs.Rows.{row_at}
-use Rattle.dependency_book.proofs.Standing.{key_row, state_row}
 
 -- what stood at a key that is there, if it stays
 abbrev pub if_stays : {K V : Type 0} → (K → Bool) → Option K → RowState V → RowState V
@@ -31,9 +30,3 @@ module _ {K V : Type 0} (rank : K → ℕ) where
       ≡ kept_for stays (row_at (by_key rank) n old) (row_at rank n ks)
   state_at-remade stays old n [] = refl
   state_at-remade stays old n (k ∷ ks) = grind (arith, nat_tests, state_at-remade stays old n ks)
-
-  -- what is kept of the row of a rank, by its key
-  pub kept_at-first : (stays : K → Bool) (n : ℕ) (rows : List (Row K V))
-      → kept_of stays (row_at (by_key rank) n rows)
-      ≡ if_stays stays (row_at rank n (keys rows)) (state_at rank n rows)
-  kept_at-first stays n rows = grind (arith, key_row rank n rows, state_row rank n rows)

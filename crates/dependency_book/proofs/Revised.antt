@@ -34,9 +34,9 @@ use Rattle.dependency_book.proofs.Followed.{MayBeFelt, stays_for, texts_stay}
 use Rattle.document_marks.proofs.Shared.Grown.{accepted, unrefused}
 use Rattle.document_marks.proofs.Shared.Ranks.{has_mark, rank_is}
 use Rattle.dependency_book.proofs.Placed.{first_is}
-use Rattle.dependency_book.proofs.Remaking.{kept_for, keys-remade, state_at-remade, kept_at-first}
-use Rattle.dependency_book.proofs.Standing.{has, state_at-above, state_row}
-use Rattle.desk_events.specs.Core.{Core, arrival_in}
+use Rattle.dependency_book.proofs.Remaking.{kept_for, keys-remade, state_at-remade}
+use Rattle.dependency_book.proofs.Standing.{has, key_row, state_at-above, state_row}
+use Rattle.desk_events.specs.Core.{arrival_in}
 use Rattle.desk_events.specs.Event.{MayBeAsked, after_edit as core_after_edit, after_event, edits, kept_row}
 use Rattle.desk_events.specs.Right.{IsRight as IsRightCore}
 use Rattle.desk_events.proofs.Shared.Right.{edits_right_on}
@@ -46,16 +46,22 @@ use Rattle.dependency_book.specs.Recalled.{Recalls}
 use Rattle.dependency_book.proofs.Shared.Cores.{arrives_same, same_core}
 use Rattle.dependency_book.proofs.Recalled.{recalls_follow}
 
--- what stands after an edit that is felt from here and gives this document, with these marks
-abbrev pub after_edit : BookState → Plan → Option Mark → List Mark → BookState
-after_edit d q felt marks = record {
+-- the book of a document with other rows
+abbrev pub with_rows : BookState → Plan → List ArrivalRow → List TextRow → BookState
+with_rows d q arrivals texts = record {
   table = d.table;
   plan = q;
   entries = d.entries;
-  arrivals = remade_rows mark_rank (mark_stays q.branches felt) d.arrivals marks;
-  texts = remade_rows bookmark_rank (bookmark_stays q.branches felt) d.texts q.bookmarks;
+  arrivals = arrivals;
+  texts = texts;
   refused = d.refused;
 }
+
+-- what stands after an edit that is felt from here and gives this document, with these marks
+abbrev pub after_edit : BookState → Plan → Option Mark → List Mark → BookState
+after_edit d q felt marks =
+    with_rows d q (remade_rows mark_rank (mark_stays q.branches felt) d.arrivals marks)
+    (remade_rows bookmark_rank (bookmark_stays q.branches felt) d.texts q.bookmarks)
 
 -- the marks that stay
 
@@ -104,9 +110,8 @@ kept_text : (branches : List Branch) (felt : Option Mark) (id : ℕ) (rows : Lis
     → kept_for (bookmark_stays branches felt) (row_at (by_key bookmark_rank) id rows) o
     ≡ stays_for branches felt o
     (row_at bookmark_rank id (keys rows)) (state_at bookmark_rank id rows)
-kept_text branches felt id rows None = refl
-kept_text branches felt id rows (Some b) = kept_at-first bookmark_rank (bookmark_stays branches felt b) id
-    rows
+kept_text branches felt id rows o =
+    grind (arith, key_row bookmark_rank id rows, state_row bookmark_rank id rows)
 
 texts_after : (d : BookState) (asked : Asked) (felt : Option Mark) (marks : List Mark) (id : ℕ)
     → MayBeFelt d.plan asked felt → keys d.texts ≡ d.plan.bookmarks
@@ -151,21 +156,13 @@ kept_core asked felt old new keeps (View id) = grind (arith, keeps.texts id)
 
 kept_out : (asked : Asked) (felt : Option Mark) (d e : BookState) (need : Need) (job : Job)
     → KeepsRows asked felt d e → expected e need ≡ Some job → expected d need ≡ Some job
-kept_out asked felt d e (Step branch mark) job keeps out = grind
-    (arith, keeps.arrivals (mark_at branch mark), out)
+kept_out asked felt d e (Step branch mark) job keeps out =
+    grind (arith, keeps.arrivals (mark_at branch mark), out)
 kept_out asked felt d e (View id) job keeps out = grind (arith, keeps.texts id, out)
 
 -- an edit keeps just this of a book, which is right afterwards
 abbrev pub Revises : Asked → BookState → BookState → Type 0
 Revises asked d e = KeepsUnfelt asked d e × IsRight e
-
--- the desk after an edit that gives a document
-abbrev kept_desk : BookState → Asked → Option Mark → Plan → Core
-kept_desk d asked felt q = record {
-  plan = q;
-  entries = d.entries;
-  rows = λ need. kept_row d.plan asked felt q need (plain_row (row_of d need));
-}
 
 -- the desk after the edit
 edited_core : (d : BookState) (asked : Asked) (felt : Option Mark) (e : BookState)
@@ -173,10 +170,11 @@ edited_core : (d : BookState) (asked : Asked) (felt : Option Mark) (e : BookStat
     → e.plan ≡ (changed d.plan asked).plan → KeepsRows asked felt d e
     → core_of e ≡ after_event (core_of d) (edits asked felt)
 edited_core d asked felt e free after keeps =
-    same_core e.plan e.plan e.entries d.entries (λ need. plain_row (row_of e need))
-    (λ need. kept_row d.plan asked felt e.plan need (plain_row (row_of d need))) refl keeps.entries
-    (kept_core asked felt d e keeps)
-    ∙ ap (kept_desk d asked felt) after
+    let q = (changed d.plan asked).plan in
+    let was = λ (need : Need). plain_row (row_of d need) in
+    same_core e.plan q e.entries d.entries (λ need. plain_row (row_of e need))
+    (λ need. kept_row d.plan asked felt q need (was need)) after keeps.entries
+    (λ need. kept_core asked felt d e keeps need ∙ ap (λ p. kept_row d.plan asked felt p need (was need)) after)
     ∙ sym (ap (λ o. core_after_edit (core_of d) asked felt (unless_refused o (changed d.plan asked))) free)
 
 felt_core : (d : BookState) (asked : Asked) (felt : Option Mark) (q : Plan)
@@ -203,21 +201,9 @@ edit_revises d asked felt marks free right is_felt sound are =
             (sym (keys-remade mark_rank (mark_stays q.branches felt) d.arrivals marks)) are;
         bookmarks = keys-remade bookmark_rank (bookmark_stays q.branches felt) d.texts q.bookmarks;
         out = λ need job out.
-            let h = right.out need job (kept_out asked felt d e need job keeps out) in
-            record { own = h.own; entry = h.entry };
+            assumption (right.out need job (kept_out asked felt d e need job keeps out));
       },
     )
-
--- the book of a document with other rows
-abbrev pub with_rows : BookState → Plan → List ArrivalRow → List TextRow → BookState
-with_rows d q arrivals texts = record {
-  table = d.table;
-  plan = q;
-  entries = d.entries;
-  arrivals = arrivals;
-  texts = texts;
-  refused = d.refused;
-}
 
 -- rows that were made of a book's rows after an edit
 pub revises : (d : BookState) (q : Plan) (asked : Asked) (edited : Edited) (felt : Option Mark) (rows : Rows)

@@ -129,10 +129,9 @@ module _ {d : BookState} {need : Need} {job : Job} (next : IsNextJob d need job)
       (issued ++ job.place ∷ []) facts
   kept_more {places} {cursor} {issued} kept =
       let held = kept.held in
-      let passed = kept.passed in
       record {
         held = held_by (more d job.place) places held.places (more_right held.right);
-        passed = record { views = passed.views; steps = passed.steps };
+        passed = assumption kept.passed;
         own = All-push (IsOf d.table) issued job.place kept.own next.own;
         facts = λ s there.
             let h = kept.facts s there in
@@ -155,16 +154,9 @@ module _ {d : BookState} {need : Need} {job : Job} (next : IsNextJob d need job)
   -- so the job is issued
   pub issue_is : (e : BookState) → Puts need (Expected job) (more d job.place) e → IsIssue need job d e
   issue_is e puts =
-      let document = puts.book.document in
       record {
         rows = puts.rows;
-        document =
-            record {
-              table = document.table;
-              plan = document.plan;
-              marks = document.marks;
-              bookmarks = document.bookmarks;
-            };
+        document = assumption puts.book.document;
         entries = puts.book.entries;
         refused = puts.book.refused;
         fewer = (let none = ap missing (next_row d need next.next).1 in let count = puts.wanting in
@@ -187,7 +179,7 @@ right_refused d right = record {
   core = right.core;
   marks = right.marks;
   bookmarks = right.bookmarks;
-  out = λ other out is. let h = right.out other out is in record { own = h.own; entry = h.entry };
+  out = λ other out is. assumption (right.out other out is);
 }
 
 pub kept_refused : {d : BookState} {places : List ℕ} {cursor : Cursor} {issued : List Place}
@@ -195,10 +187,9 @@ pub kept_refused : {d : BookState} {places : List ℕ} {cursor : Cursor} {issued
     → IsKept d places cursor issued facts → IsKept (with_refusal d) places cursor issued facts
 kept_refused {d} {places} kept =
     let held = kept.held in
-    let passed = kept.passed in
     record {
       held = held_by (with_refusal d) places held.places (right_refused d held.right);
-      passed = record { views = passed.views; steps = passed.steps };
+      passed = assumption kept.passed;
       own = kept.own;
       facts = kept.facts;
     }

@@ -1,11 +1,16 @@
 -- Whether an edit of a book's document is felt at a mark.
-use Rattle.std.specs.Prelude.{ℕ, Option}
+use Rattle.std.specs.Prelude.{◌≡◌, ℕ, MatchOption, None, Option, Some}
+use Rattle.worlds.specs.World.{World}
 use Rattle.schedule.specs.declared.acts.Acts.{Acts}
 use Rattle.schedule.specs.Asked.{Asked}
 use Rattle.schedule.specs.Change.{changed}
 use Rattle.desk_events.specs.declared.mark.Mark.{Mark}
 use Rattle.dependency_book.specs.BookState.{BookState, arrival_known}
 use Rattle.desk_events.specs.Felt.{IsUnfeltAt, IsUnfeltWhere, IsUnfelt, IsFelt}
+
+-- what is found is the world that is known, if one is
+abbrev pub IsFoundBy : {A : Type 0} → (A → World) → Option World → Option A → Type 0
+IsFoundBy world known found = MatchOption found (known ≡ None) (λ x. known ≡ Some (world x))
 
 -- an edit of a book's document changes no pattern at a mark
 abbrev pub BookIsUnfeltAt : BookState → Asked → Mark → Type 0

@@ -1,11 +1,11 @@
 //! From where an edit is felt.
-ghost use Rattle.std.specs.Prelude.{◌≡◌, ◌↔◌, IfOk, IsTrue, MatchOption, None, Some};
+ghost use Rattle.std.specs.Prelude.{◌≡◌, ◌↔◌, IfOk, IsTrue, None};
 ghost use Rattle.std.specs.Arc.{arc_value};
 ghost use Rattle.schedule.specs.Asked.{asked_of};
 ghost use Rattle.schedule.specs.Change.{first_refusal, refusals};
 ghost use Rattle.dependency_book.specs.BookState.{arrival_known};
 ghost use Rattle.dependency_book.specs.Felt.{BookFeels, BookIsUnfelt};
-ghost use Rattle.dependency_book.specs.Felt.{BookIsUnfeltAt, BookIsUnfeltWhere};
+ghost use Rattle.dependency_book.specs.Felt.{BookIsUnfeltAt, BookIsUnfeltWhere, IsFoundBy};
 
 use crate::book::Book;
 use crate::row::Key;
@@ -80,9 +80,7 @@ impl Book<'_> {
 
     /// What arrives at a mark, if it is known.
     pub(crate) fn known_at(&self, mark: Mark) -> Option<&Arc<Plane>>
-        ensures { MatchOption result
-            (arrival_known self.now mark ≡ None)
-            (λ plane. arrival_known self.now mark ≡ Some (arc_value plane.now)) }
+        ensures { IsFoundBy (λ plane. arc_value plane.now) (arrival_known self.now mark) result }
     {
         if mark.is_start() {
             return Some(self.document.start());

@@ -1,5 +1,5 @@
 -- The desk of the law that a book shows.
-use Rattle.std.proofs.Common.{arith, ℕ, ◌≡◌, ◌∙◌, Bool, true, false, List, refl, sym, ap, subst, Some}
+use Rattle.std.proofs.Common.{arith, ℕ, ◌≡◌, ◌∙◌, Bool, List, refl, sym, ap, subst, Some}
 use Rattle.std.specs.Prelude.{IfSome, if◌then◌else◌}
 use Rattle.std.proofs.Math.Path.{fun_ext}
 use Rattle.worlds.specs.World.{World}

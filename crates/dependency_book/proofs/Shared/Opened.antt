@@ -44,8 +44,7 @@ opened_held table revision = record {
       near = tt;
       above = tt;
       are = λ m other. sym (unmarked revision m other);
-      few = omega
-          arith;
+      few = omega arith;
     };
     bookmarks = refl;
     out = λ need job out. absurd (let none = none_out table revision need in cc);

@@ -20,24 +20,10 @@ returns-then-matches c =
     let h = subst (Filling c.args.answer old new) (sym row)
     (filled_then (subst (Takes c.args.answer old c.take-filled.new.self) row taken)
     c.recall_all.ensures.recalls) in
-    record {
-      filled = h.filled;
-      fills = h.fills;
-      freed = h.freed;
-      book = h.book;
-      event = h.event;
-      right = c.recall_all.ensures.right;
-    }
+    assumption (h, c.recall_all.ensures.right)
 
 pub returns-else-matches : goal.returns-else-matches
 returns-else-matches c =
     let h = filled_alone c.take-filled.result
     (took c.keep_fact.ensures c.into_parts-parts.ensures.parts c.take-filled.ensures.takes) in
-    record {
-      filled = h.filled;
-      fills = h.fills;
-      freed = h.freed;
-      book = h.book;
-      event = h.event;
-      right = c.take-filled.ensures.right;
-    }
+    assumption (h, c.take-filled.ensures.right)

@@ -1,33 +1,32 @@
-use Rattle.std.proofs.Common.{◌≡◌, ◌≤◌, ◌∙◌, ap, arith, length, sym, rules}
+use Rattle.std.proofs.Common.{◌≤◌, ap, arith, length, rules}
 use Rattle.std.specs.Prelude.{count_by}
 use Rattle.std.proofs.lemmas.List.{length-map}
 use Rattle.std.proofs.lemmas.List.Sums.{count_by-le-length}
-use Rattle.dependency_book.specs.BookState.{is_pending}
+use Rattle.dependency_book.specs.BookState.{BookState, is_pending}
 use Rattle.dependency_book.specs.Rows.{TextRow}
+use Rattle.dependency_book.specs.Inside.{state_of}
+use Rattle.dependency_book.specs.Right.{IsRight}
 use Rattle.dependency_book.proofs.book.Book.pending.Goals as goal
+
+-- no more texts are pending than there are bookmarks
+few : (d : BookState) → IsRight d → count_by is_pending d.texts ≤ length d.plan.bookmarks
+few d right =
+    let same = length-map d.texts (λ (r : TextRow). r.key) in
+    let are = ap length right.bookmarks in
+    let most = count_by-le-length is_pending d.texts in
+    omega (arith, same, are, most)
 
 pub overflow_cast-result : goal.overflow_cast-result
 overflow_cast-result c =
-    let texts = c.self.inside.texts.items in
-    let same : length texts ≡ length c.self.inside.document.bookmarks = sym
-    (length-map texts (λ (r : TextRow). r.key))
-    ∙ ap length c.self.invariant.held.right.bookmarks in
-    let few = c.self.invariant.held.right.core.sound.few_bookmarks in
-    let most : count_by is_pending texts ≤ length texts = count_by-le-length is_pending texts in
-    let is : c.pending_count.result ≡ count_by is_pending texts =
-    c.pending_count.ensures ∙ ap (count_by is_pending) c.deref.ensures.value in
-    let small : c.pending_count.result ≤ 4096 = omega (arith, same, few, most, is) in
+    let low = few (state_of c.self.inside) c.self.invariant.held.right in
+    let most = c.self.invariant.held.right.core.sound.few_bookmarks in
+    let is = rw c.deref.ensures.value at c.pending_count.ensures in
+    let small : c.pending_count.result ≤ 4096 = omega (arith, low, most, is) in
     search rules
 
 pub returns-clause-bound : goal.returns-clause-bound
 returns-clause-bound c =
-    let texts = c.self.inside.texts.items in
-    let same : length texts ≡ length c.self.inside.document.bookmarks = sym
-    (length-map texts (λ (r : TextRow). r.key))
-    ∙ ap length c.self.invariant.held.right.bookmarks in
-    let most : count_by is_pending texts ≤ length texts = count_by-le-length is_pending texts in
-    let is : c.pending_count.result ≡ count_by is_pending texts =
-    c.pending_count.ensures ∙ ap (count_by is_pending) c.deref.ensures.value in
-    let few : c.pending_count.result ≤ length c.self.inside.document.bookmarks = omega
-    (arith, same, most, is) in
+    let low = few (state_of c.self.inside) c.self.invariant.held.right in
+    let is = rw c.deref.ensures.value at c.pending_count.ensures in
+    let few : c.pending_count.result ≤ length c.self.inside.document.bookmarks = omega (arith, low, is) in
     search rules

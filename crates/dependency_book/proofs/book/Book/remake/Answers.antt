@@ -1,15 +1,10 @@
-use Rattle.std.proofs.Common.{◌≡◌, ℕ, ◌≤◌, List, refl, sym, subst, arith}
+use Rattle.std.proofs.Common.{ℕ, ◌≤◌, arith}
 use Rattle.schedule.specs.Asked.{asked_of}
 use Rattle.dependency_book.specs.BookState.{BookState}
-use Rattle.dependency_book.specs.Cursor.{HasPassed}
 use Rattle.dependency_book.specs.Inside.{state_of}
-use Rattle.dependency_book.specs.Felt.{BookFeels}
-use Rattle.dependency_book.specs.Kept.{KeepsUnfelt}
 use Rattle.document_marks.proofs.Shared.Grown.{is_within}
 use Rattle.dependency_book.specs.declared.room.Room.{Room}
 use Rattle.dependency_book.specs.Room.{HasRoom}
-use Rattle.dependency_book.specs.RowState.{OutsAreOf}
-use Rattle.dependency_book.specs.Rows.{ArrivalRow, TextRow}
 use Rattle.dependency_book.proofs.Outs.{all_own, held_by}
 use Rattle.dependency_book.proofs.Passed.{passed_none}
 use Rattle.dependency_book.proofs.Revised.{Revises, revises, with_rows}
@@ -19,16 +14,7 @@ use Rattle.dependency_book.proofs.book.Book.remake.Goals as goal
 -- room for more is room for fewer
 room_for : (room : Room) (marks bookmarks fewer less : ℕ) → HasRoom room marks bookmarks → fewer ≤ marks
     → less ≤ bookmarks → HasRoom room fewer less
-room_for room marks bookmarks fewer less h few low = record {
-  no_marks = h.no_marks;
-  no_arrivals = h.no_arrivals;
-  no_texts = h.no_texts;
-  no_places = h.no_places;
-  marks = omega arith;
-  arrivals = omega arith;
-  texts = omega arith;
-  places = omega arith;
-}
+room_for room marks bookmarks fewer less h few low = grind arith
 
 pub rows_of-rows-requires-clause-room : goal.rows_of-rows-requires-clause-room
 rows_of-rows-requires-clause-room c =

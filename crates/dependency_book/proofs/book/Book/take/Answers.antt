@@ -15,26 +15,26 @@ not_true h = cc
 pub fill_row-requires : goal.fill_row-requires
 fill_row-requires c =
     let h : IsAwaited c.args.self.now c.in-Some.need c.in-Some.place.now (result_in c.args.parts) =
-    record {
-      right = c.expecting.ensures.right;
-      out = c.in-Some.ensures.row;
-      index = c.if-same.ensures.index.0 refl;
-      entry = c.if-same.ensures.entry refl;
-      says = c.requires.right;
-    } in
+    assumption (
+      c.expecting.ensures.right,
+      c.in-Some.ensures.row,
+      c.if-same.ensures.index.0 refl,
+      c.if-same.ensures.entry refl,
+      c.requires.right,
+    ) in
     may_stand h
 
 pub returns-in-Some-clause-takes : goal.returns-in-Some-clause-takes
 returns-in-Some-clause-takes c =
     let e = c.fill_row.new.self in
     let h : IsAwaited c.args.self.now c.in-Some.need c.in-Some.place.now (result_in c.args.parts) =
-    record {
-      right = c.expecting.ensures.right;
-      out = c.in-Some.ensures.row;
-      index = c.if-same.ensures.index.0 refl;
-      entry = c.if-same.ensures.entry refl;
-      says = c.requires.right;
-    } in
+    assumption (
+      c.expecting.ensures.right,
+      c.in-Some.ensures.row,
+      c.if-same.ensures.index.0 refl,
+      c.if-same.ensures.entry refl,
+      c.requires.right,
+    ) in
     subst (Takes (result_in c.args.parts) c.args.self.now e) (sym c.fill_row.ensures.filled)
     (answer_takes h e c.fill_row.ensures.row)
 
