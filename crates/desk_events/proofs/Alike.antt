@@ -7,7 +7,7 @@ use Rattle.worlds.specs.Lay.{lay}
 use Rattle.schedule.specs.declared.acts.Acts.{Acts}
 use Rattle.schedule.specs.Acts.{acts_on}
 use Rattle.schedule.specs.Alike.{LayAlikeWithin}
-use Rattle.schedule.specs.Asked.{Asked, InsertIntervention, ChangeIntervention, InsertRepeat, ChangeRepeat, RemoveIntervention, SetCells, ReplaceStart, ReplaceRule, AddBookmark, MoveBookmark, RemoveBookmark, AddBranch, RemoveBranch}
+use Rattle.schedule.specs.Asked.{Asked, SetCells, ReplaceStart, ReplaceRule, AddBookmark, MoveBookmark, RemoveBookmark, AddBranch, RemoveBranch}
 use Rattle.schedule.specs.Branches.{reach}
 use Rattle.schedule.specs.Change.{acting, changed}
 use Rattle.schedule.specs.Plan.{Plan}
@@ -75,16 +75,6 @@ alike p known asked sound arrives h rule start branches = record {
 -- so the document before the edit and the one after it lay alike as far as branches reach
 pub unfelt_alike : (p : Plan) (known : Mark → Option World) (asked : Asked) → IsSound p → Arrives known p
     → IsUnfelt known p asked (changed p asked).plan → LayAlikeWithin p (changed p asked).plan
-unfelt_alike p known (InsertIntervention branch g cells) sound arrives h =
-    alike p known (InsertIntervention branch g cells) sound arrives h refl refl refl
-unfelt_alike p known (ChangeIntervention id g cells) sound arrives h =
-    alike p known (ChangeIntervention id g cells) sound arrives h refl refl refl
-unfelt_alike p known (InsertRepeat branch first every last cells) sound arrives h =
-    alike p known (InsertRepeat branch first every last cells) sound arrives h refl refl refl
-unfelt_alike p known (ChangeRepeat id first every last cells) sound arrives h =
-    alike p known (ChangeRepeat id first every last cells) sound arrives h refl refl refl
-unfelt_alike p known (RemoveIntervention id) sound arrives h =
-    alike p known (RemoveIntervention id) sound arrives h refl refl refl
 unfelt_alike p known (SetCells cells) sound arrives h = absurd h
 unfelt_alike p known (ReplaceStart start) sound arrives h = absurd h
 unfelt_alike p known (ReplaceRule rule) sound arrives h = absurd h
@@ -93,3 +83,4 @@ unfelt_alike p known (MoveBookmark id g) sound arrives h = absurd h
 unfelt_alike p known (RemoveBookmark id) sound arrives h = absurd h
 unfelt_alike p known (AddBranch parent g) sound arrives h = absurd h
 unfelt_alike p known (RemoveBranch n) sound arrives h = absurd h
+unfelt_alike p known asked sound arrives h = alike p known asked sound arrives h refl refl refl

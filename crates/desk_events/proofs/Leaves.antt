@@ -1,7 +1,8 @@
 -- What an edit leaves of a document's history.
 use Rattle.std.proofs.Common.{◌≡◌, ℕ, zero, suc, ◌+◌, ◌<◌, ◌≤◌, ◌∙◌, Bool, true, false, not, ◌&&◌, nat_lt, List, [], ◌∷◌, refl, sym, ap, ap₂, arith, Option, None, Some}
 use Rattle.std.specs.Prelude.{◌==◌}
-use Rattle.std.proofs.lemmas.Bool.{and_from, and_right, or_from, or_parts}
+use Rattle.std.proofs.lemmas.Bool.Decides.{nat_tests}
+use Rattle.std.proofs.lemmas.Bool.{and_from, and_right, or_from}
 use Rattle.worlds.specs.Lay.{lay}
 use Rattle.rule_tree.specs.Rule.{name_of, states_of}
 use Rattle.bookmarks.specs.Text.{text_of}
@@ -11,7 +12,7 @@ use Rattle.schedule.specs.declared.document.Intervention.{Intervention}
 use Rattle.schedule.specs.declared.fault.EditFault.{EditFault}
 use Rattle.schedule.specs.declared.fault.EditFault.TheVariants.{BranchInUse, NoSuchBranch}
 use Rattle.schedule.specs.Plan.{Plan}
-use Rattle.schedule.specs.Asked.{Asked, InsertIntervention, ChangeIntervention, InsertRepeat, ChangeRepeat, RemoveIntervention, SetCells, ReplaceStart, ReplaceRule, AddBookmark, MoveBookmark, RemoveBookmark, AddBranch, RemoveBranch}
+use Rattle.schedule.specs.Asked.{Asked, SetCells, ReplaceStart, ReplaceRule, AddBookmark, MoveBookmark, RemoveBookmark, AddBranch, RemoveBranch}
 use Rattle.schedule.specs.Branches.{fork_of, has_bookmarks, has_branch, parent_of}
 use Rattle.schedule.specs.Change.{changed, first_refusal, is_in_use, refusal, spent}
 use Rattle.schedule.specs.History.{is_felt}
@@ -36,8 +37,7 @@ use Rattle.desk_events.proofs.Shared.Touching.{SameUntouched, untouched, untouch
 -- what isn't felt
 
 not_true : (b : Bool) → not b ≡ true → b ≡ false
-not_true true h = absurd cc
-not_true false h = refl
+not_true b h = grind arith
 
 -- what a mark leaves isn't felt at the next generation
 unfelt_next : (branches : List Branch) (from m : Mark) → leaves_after branches (Some from) m ≡ true
@@ -89,10 +89,7 @@ none_kept p m sound other keeps =
     (not_true (is_felt p.branches b b g 0 0) keeps)
   where
     above : (b g : ℕ) → b ≡ 0 → (b == 0 && g == 0) ≡ false → 0 < g
-    above b g zero_b off =
-        either_way (g == 0)
-        (λ hit. clash (b == 0 && g == 0) (and_from (b == 0) (g == 0) (eq_true b 0 zero_b) hit) off)
-        (λ miss. let apart = false_eq g 0 miss in omega (arith, apart))
+    above b g zero_b off = grind (arith, nat_tests)
 
 none_left : {A : Type 0} (p : Plan) (m : Mark) → IsSound p → leaves_after p.branches (Some (mark_at 0 0)) m ≡ true → A
 none_left p m sound leaves =
@@ -107,9 +104,7 @@ none_left p m sound leaves =
 -- it isn't in use
 free_second : (a b : Bool) (f g : EditFault) (rest : List (Bool × EditFault))
     → first_refusal ((a, f) ∷ (b, g) ∷ rest) ≡ None → b ≡ false
-free_second true b f g rest h = absurd cc
-free_second false true f g rest h = absurd cc
-free_second false false f g rest h = refl
+free_second a b f g rest h = grind arith
 
 not_used : (p : Plan) (n : ℕ) → refusal p (RemoveBranch n) ≡ None → is_in_use p n ≡ false
 not_used p n free = free_second (not (has_branch p.branches n)) (is_in_use p n) NoSuchBranch BranchInUse (spent p) free
@@ -117,10 +112,7 @@ not_used p n free = free_second (not (has_branch p.branches n)) (is_in_use p n) 
 -- and isn't there any more
 none_without : (xs : List Branch) (n : ℕ) → has_id branch_id (without branch_id xs n) n ≡ false
 none_without [] n = refl
-none_without (x ∷ xs) n =
-    either_way (x.id == n)
-    (λ hit. rw hit (none_without xs n))
-    (λ miss. rw miss (rw miss (none_without xs n)))
+none_without (x ∷ xs) n = grind (arith, none_without xs n)
 
 gone : (p : Plan) (n b : ℕ) → is_in_use p n ≡ false → has_branch (without branch_id p.branches n) b ≡ true
     → (b == n) ≡ false
@@ -137,12 +129,7 @@ gone p n b free there =
 none_shown : (bs : List Bookmark) (n id : ℕ) (b : Bookmark) → has_bookmarks bs n ≡ false → bookmark_in bs id ≡ Some b
     → (b.branch == n) ≡ false
 none_shown [] n id b none is = absurd cc
-none_shown (c ∷ bs) n id b none is =
-    let parts = or_parts (c.branch == n) (has_bookmarks bs n) none in
-    either_way (c.id == id)
-    (λ hit. let one : Some c ≡ Some b = rw hit at is in let same : c ≡ b = cc in
-    ap (λ (x : Bookmark). x.branch == n) (sym same) ∙ parts.0)
-    (λ miss. none_shown bs n id b parts.1 (rw miss at is))
+none_shown (c ∷ bs) n id b none is = grind (arith, none_shown bs n id b)
 
 shows_none : (p : Plan) (n id : ℕ) (b : Bookmark) → is_in_use p n ≡ false → bookmark_in p.bookmarks id ≡ Some b
     → (b.branch == n) ≡ false
@@ -184,16 +171,6 @@ pub arrival_left : (p : Plan) (asked : Asked) (m : Mark) → IsSound p → refus
     → is_mark p m ≡ true → is_mark (changed p asked).plan m ≡ true → keeps_arrival (changed p asked).plan.branches
     (felt_from p asked) m ≡ true
     → arrival p m.branch m.generation ≡ arrival (changed p asked).plan m.branch m.generation
-arrival_left p (InsertIntervention branch generation cells) m sound free other was is stays =
-    edited_left p (InsertIntervention branch generation cells) m sound stays
-arrival_left p (ChangeIntervention id generation cells) m sound free other was is stays =
-    edited_left p (ChangeIntervention id generation cells) m sound stays
-arrival_left p (InsertRepeat branch first every last cells) m sound free other was is stays =
-    edited_left p (InsertRepeat branch first every last cells) m sound stays
-arrival_left p (ChangeRepeat id first every last cells) m sound free other was is stays =
-    edited_left p (ChangeRepeat id first every last cells) m sound stays
-arrival_left p (RemoveIntervention id) m sound free other was is stays =
-    edited_left p (RemoveIntervention id) m sound stays
 arrival_left p (SetCells cells) m sound free other was is stays = none_kept p m sound other stays
 arrival_left p (ReplaceStart start) m sound free other was is stays = none_kept p m sound other stays
 arrival_left p (ReplaceRule rule) m sound free other was is stays = none_kept p m sound other stays
@@ -207,6 +184,7 @@ arrival_left p (RemoveBranch n) m sound free other was is stays =
     let later = IsSound-removed_branch p n sound free in
     arrival-removed p sound n none m.branch m.generation
     (gone p n m.branch none (mark_placed (changed p (RemoveBranch n)).plan m later is).there)
+arrival_left p asked m sound free other was is stays = edited_left p asked m sound stays
 
 -- and what a bookmark shows that it leaves
 
@@ -226,16 +204,6 @@ pub scratch_left : (p : Plan) (asked : Asked) (id : ℕ) (b : Bookmark) → IsSo
     → bookmark_in p.bookmarks id ≡ Some b → IsPlaced p.branches b.branch b.generation
     → leaves_after (changed p asked).plan.branches (felt_from p asked) (bookmark_mark b) ≡ true
     → scratch p b ≡ scratch (changed p asked).plan b
-scratch_left p (InsertIntervention branch generation cells) id b sound free is placed leaves =
-    edited_shown p (InsertIntervention branch generation cells) b sound leaves
-scratch_left p (ChangeIntervention n generation cells) id b sound free is placed leaves =
-    edited_shown p (ChangeIntervention n generation cells) b sound leaves
-scratch_left p (InsertRepeat branch first every last cells) id b sound free is placed leaves =
-    edited_shown p (InsertRepeat branch first every last cells) b sound leaves
-scratch_left p (ChangeRepeat n first every last cells) id b sound free is placed leaves =
-    edited_shown p (ChangeRepeat n first every last cells) b sound leaves
-scratch_left p (RemoveIntervention n) id b sound free is placed leaves =
-    edited_shown p (RemoveIntervention n) b sound leaves
 scratch_left p (SetCells cells) id b sound free is placed leaves = none_left p (bookmark_mark b) sound leaves
 scratch_left p (ReplaceStart start) id b sound free is placed leaves = none_left p (bookmark_mark b) sound leaves
 scratch_left p (ReplaceRule rule) id b sound free is placed leaves = none_left p (bookmark_mark b) sound leaves
@@ -251,3 +219,4 @@ scratch_left p (RemoveBranch n) id b sound free is placed leaves =
     shown_left p (changed p (RemoveBranch n)).plan b refl
     (ap (lay (cells_at p.interventions b.branch b.generation))
     (arrival-removed p sound n none b.branch b.generation (shows_none p n id b none is)))
+scratch_left p asked id b sound free is placed leaves = edited_shown p asked b sound leaves

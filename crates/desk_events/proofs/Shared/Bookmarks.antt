@@ -1,25 +1,25 @@
 -- What an edit makes of bookmarks.
-use Rattle.std.proofs.Common.{◌≡◌, ℕ, ◌∙◌, ◌++◌, true, false, not, ◌&&◌, List, [], ◌∷◌, refl, sym, ap, Option, None, Some}
+use Rattle.std.proofs.Common.{◌≡◌, ℕ, ◌∙◌, ◌++◌, true, not, ◌&&◌, List, [], ◌∷◌, refl, arith, sym, ap, Option, None, Some}
 use Rattle.std.specs.Prelude.{◌==◌, if◌then◌else◌}
+use Rattle.std.proofs.lemmas.Bool.Decides.{nat_tests}
 use Rattle.std.proofs.lemmas.Bool.{and_parts}
 use Rattle.schedule.specs.declared.document.Bookmark.{Bookmark}
 use Rattle.schedule.specs.Plan.{Plan}
-use Rattle.schedule.specs.Asked.{Asked, InsertIntervention, ChangeIntervention, InsertRepeat, ChangeRepeat, RemoveIntervention, SetCells, ReplaceStart, ReplaceRule, AddBookmark, MoveBookmark, RemoveBookmark, AddBranch, RemoveBranch}
+use Rattle.schedule.specs.Asked.{Asked, AddBookmark, MoveBookmark, RemoveBookmark}
 use Rattle.schedule.specs.Change.{changed, marking, next_bookmark}
 use Rattle.schedule.specs.Ids.{bookmark_id, changed_at, without}
 use Rattle.desk_events.specs.declared.mark.Mark.{Mark}
 use Rattle.desk_events.specs.Wanted.{bookmark_in}
 use Rattle.desk_events.specs.Kept.{keeps_text, leaves_after, takes}
 use Rattle.desk_events.specs.Marks.{bookmark_mark}
-use Rattle.desk_events.proofs.Shared.Tests.{either_way, clash, true_eq, eq_true, eq_false}
+use Rattle.desk_events.proofs.Shared.Tests.{either_way, clash, true_eq, eq_true}
 
 -- the bookmarks with another, of which one was moved, or without one
 
 pub in_added : (bs : List Bookmark) (b : Bookmark) (id : ℕ) (c : Bookmark) → bookmark_in bs id ≡ Some c
     → bookmark_in (bs ++ b ∷ []) id ≡ Some c
 in_added [] b id c is = absurd cc
-in_added (x ∷ bs) b id c is =
-    either_way (x.id == id) (λ hit. rw hit (rw hit at is)) (λ miss. rw miss (in_added bs b id c (rw miss at is)))
+in_added (x ∷ bs) b id c is = grind (arith, in_added bs b id c)
 
 abbrev pub moved : ℕ → ℕ → Bookmark → Bookmark
 moved id g b = if b.id == id then marking g b else b
@@ -29,7 +29,7 @@ moved_in id g None = None
 moved_in id g (Some b) = Some (moved id g b)
 
 pub moved_id : (id g : ℕ) (b : Bookmark) → (moved id g b).id ≡ b.id
-moved_id id g b = either_way (b.id == id) (λ hit. rw hit refl) (λ miss. rw miss refl)
+moved_id id g b = grind arith
 
 pub in_moved : (bs : List Bookmark) (i g id : ℕ) → bookmark_in (changed_at bookmark_id (marking g) bs i) id ≡ moved_in i g
     (bookmark_in bs id)
@@ -39,52 +39,21 @@ in_moved (b ∷ bs) i g id =
 
 pub in_removed : (bs : List Bookmark) (i id : ℕ) → bookmark_in (without bookmark_id bs i) id ≡
     (if i == id then None else bookmark_in bs id)
-in_removed [] i id = either_way (i == id) (λ hit. rw hit refl) (λ miss. rw miss refl)
-in_removed (b ∷ bs) i id =
-    either_way (b.id == i)
-    (λ hit. rw hit
-    (in_removed bs i id ∙ either_way (i == id) (λ same. rw same refl)
-    (λ other. let off : (b.id == id) ≡ false = ap (λ n. n == id) (true_eq b.id i hit) ∙ other in
-    rw other (rw off refl))))
-    (λ miss.
-    rw miss
-    (either_way (b.id == id)
-    (λ same. let off : (i == id) ≡ false =
-    eq_false i id (λ one. clash (b.id == i) (eq_true b.id i (true_eq b.id id same ∙ sym one)) miss) in
-    rw same (rw off refl))
-    (λ other. rw other (in_removed bs i id))))
+in_removed [] i id = grind arith
+in_removed (b ∷ bs) i id = grind (arith, nat_tests, in_removed bs i id)
 
 pub in_is : (bs : List Bookmark) (id : ℕ) (b : Bookmark) → bookmark_in bs id ≡ Some b → b.id ≡ id
 in_is [] id b is = absurd cc
-in_is (c ∷ bs) id b is =
-    either_way (c.id == id)
-    (λ hit. let one : Some c ≡ Some b = rw hit at is in let same : c ≡ b = cc in sym (ap bookmark_id same)
-    ∙ true_eq c.id id hit)
-    (λ miss. in_is bs id b (rw miss at is))
+in_is (c ∷ bs) id b is = grind (arith, nat_tests, in_is bs id b)
 
 -- a bookmark whose text is kept stays as it is
 
 moved_stays : (i g : ℕ) (b : Bookmark) → not (b.id == i && not (b.generation == g)) ≡ true → moved i g b ≡ b
-moved_stays i g b h =
-    either_way (b.id == i)
-    (λ hit.
-    let kept : not (not (b.generation == g)) ≡ true = rw hit at h in
-    either_way (b.generation == g)
-    (λ same. rw hit (ap (λ n. marking n b) (sym (true_eq b.generation g same))))
-    (λ other. clash (not (not (b.generation == g))) kept (rw other refl)))
-    (λ miss. rw miss refl)
+moved_stays i g b h = grind (arith, nat_tests)
 
 pub kept_in : (p : Plan) (asked : Asked) (felt : Option Mark) (id : ℕ) (b : Bookmark)
     → keeps_text (changed p asked).plan.branches felt asked b ≡ true → bookmark_in p.bookmarks id ≡ Some b
     → bookmark_in (changed p asked).plan.bookmarks id ≡ Some b
-kept_in p (InsertIntervention branch g cells) felt id b keep is = is
-kept_in p (ChangeIntervention i g cells) felt id b keep is = is
-kept_in p (InsertRepeat branch first every last cells) felt id b keep is = is
-kept_in p (ChangeRepeat i first every last cells) felt id b keep is = is
-kept_in p (RemoveIntervention i) felt id b keep is = is
-kept_in p (SetCells cells) felt id b keep is = is
-kept_in p (ReplaceStart start) felt id b keep is = is
-kept_in p (ReplaceRule rule) felt id b keep is = is
 kept_in p (AddBookmark branch g view) felt id b keep is = in_added p.bookmarks (next_bookmark p branch g view) id b is
 kept_in p (MoveBookmark i g) felt id b keep is =
     let left = (and_parts (leaves_after p.branches felt (bookmark_mark b)) (not (takes (MoveBookmark i g) b)) keep).1 in
@@ -95,5 +64,4 @@ kept_in p (RemoveBookmark i) felt id b keep is =
     ∙ either_way (i == id)
     (λ hit. clash (not (b.id == i)) left (ap not (eq_true b.id i (in_is p.bookmarks id b is ∙ sym (true_eq i id hit)))))
     (λ miss. rw miss is)
-kept_in p (AddBranch parent g) felt id b keep is = is
-kept_in p (RemoveBranch n) felt id b keep is = is
+kept_in p asked felt id b keep is = is

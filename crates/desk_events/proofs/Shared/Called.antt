@@ -1,6 +1,7 @@
 -- The calls of a desk are events of the law.
-use Rattle.std.proofs.Common.{◌≡◌, ℕ, ◌∙◌, Bool, true, false, List, [], ◌∷◌, ◌++◌, length, refl, sym, ap, subst, inl, inr, Option, None, Some}
+use Rattle.std.proofs.Common.{◌≡◌, ℕ, ◌∙◌, Bool, true, false, List, [], ◌∷◌, ◌++◌, length, refl, arith, sym, ap, subst, inl, inr, Option, None, Some}
 use Rattle.std.specs.Prelude.{◌==◌, if◌then◌else◌}
+use Rattle.std.proofs.lemmas.Bool.Decides.{nat_tests}
 use Rattle.std.proofs.Math.Path.{fun_ext}
 use Rattle.schedule.specs.declared.fault.EditFault.{EditFault}
 use Rattle.schedule.specs.Asked.{Asked}
@@ -9,13 +10,13 @@ use Rattle.revision_jobs.specs.Value.{pattern}
 use Rattle.desk_events.specs.declared.mark.Mark.{Mark}
 use Rattle.desk_events.specs.declared.need.Need.{Need}
 use Rattle.desk_events.specs.Configuration.{Configuration, HappenAll, Happening, Happens, IsReached, IsWithout, desk, finishes, opened_among, queued_after, takes}
-use Rattle.desk_events.specs.Core.{Answer, Core, Row, awaits, holds, nothing, opened}
+use Rattle.desk_events.specs.Core.{Answer, Core, Row, awaits, opened}
 use Rattle.desk_events.specs.Entry.{world_after}
-use Rattle.desk_events.specs.Event.{CanEdit, CanHappen, CanIssue, CanRecall, Event, IsTrueAnswer, after_edit, after_event, answered, cancels, collects, edits, given_by, issues, recalls}
+use Rattle.desk_events.specs.Event.{CanEdit, CanHappen, CanIssue, CanRecall, Event, IsTrueAnswer, after_edit, after_event, answered, cancels, collects, edits, issues, recalls}
 use Rattle.desk_events.specs.Law.{AreCalls, CallsAreEvents, IsCall, IsTrue, Recalled, Recalls, recall}
 use Rattle.desk_events.specs.Needs.{is_need, step_to}
-use Rattle.desk_events.proofs.Shared.Right.{answered_out, cancelled_out, given_none, kept_out, one_number, picked, recalled_out, unawaited}
-use Rattle.desk_events.proofs.Shared.Tests.{either_way, eq_true, true_eq}
+use Rattle.desk_events.proofs.Shared.Right.{answered_out, cancelled_out, kept_out, one_number, picked, recalled_out, unawaited}
+use Rattle.desk_events.proofs.Shared.Tests.{either_way, true_eq}
 use Rattle.desk_events.proofs.Shared.Opened.{opened_none}
 
 -- one thing after another happens
@@ -25,12 +26,47 @@ all_then : (hs : List Happening) (c d e : Configuration) (ks : List Happening) �
 all_then [] c d e ks h k = subst (λ x. HappenAll ks x e) h k
 all_then (x ∷ hs) c d e ks h k = (h.0, h.1, all_then hs h.0 d e ks h.2 k)
 
-reached_then : (revision : ℕ) (c d : Configuration) (h : Happening) → IsReached revision c → Happens h c d
+pub reached_then : (revision : ℕ) (c d : Configuration) (h : Happening) → IsReached revision c → Happens h c d
     → IsReached revision d
 reached_then revision c d h reached does = record {
   happenings = reached.happenings ++ h ∷ [];
   all = all_then reached.happenings (opened_among revision) c d (h ∷ []) reached.all (d, inl does, refl);
 }
+
+-- a list without one of its members
+pub split_at : {A : Type 0} (xs ys : List A) (x : A) → IsWithout x (xs ++ x ∷ ys) (xs ++ ys)
+split_at xs ys x = record { before = xs; after = ys; there = refl; gone = refl }
+
+-- a job that is queued is taken, and worked with an answer
+pub worked_then : (revision : ℕ) (answer : Answer) (c : Configuration) (rest : List ℕ)
+    → IsWithout answer.number c.queued rest → IsTrueAnswer c.core.entries answer → IsReached revision c
+    → IsReached revision (record c { queued = rest; answers = answer ∷ c.answers })
+worked_then revision answer c rest queued true_one reached =
+    let took : Configuration = record c { queued = rest; taken = (0, answer.number) ∷ c.taken } in
+    reached_then revision took (record c { queued = rest; answers = answer ∷ c.answers }) (finishes 0 answer)
+    (reached_then revision c took (takes 0 answer.number) reached
+    (record { core = refl; queued = queued; taken = refl; answers = refl }))
+    (record {
+      value_is = true_one;
+      core = refl;
+      queued = refl;
+      taken = split_at [] c.taken (0, answer.number);
+      answers = refl;
+    })
+
+-- an answer of those that are there is collected
+pub collected_then : (revision : ℕ) (xs ys : List Answer) (answer : Answer) (c : Configuration)
+    → c.answers ≡ xs ++ answer ∷ ys → IsReached revision c
+    → IsReached revision (record c { core = after_event c.core (collects answer); answers = xs ++ ys })
+collected_then revision xs ys answer c is reached =
+    reached_then revision c (record c { core = after_event c.core (collects answer); answers = xs ++ ys })
+    (desk (collects answer)) reached (record {
+      can = tt;
+      core = refl;
+      queued = refl;
+      taken = refl;
+      answers = record { before = xs; after = ys; there = is; gone = refl };
+    })
 
 -- a number among others
 
@@ -40,12 +76,11 @@ among n (m ∷ ms) = if m == n then true else among n ms
 
 among_front : (n : ℕ) (xs ys : List ℕ) → among n xs ≡ true → among n (xs ++ ys) ≡ true
 among_front n [] ys h = absurd cc
-among_front n (x ∷ xs) ys h =
-    either_way (x == n) (λ hit. rw hit refl) (λ miss. rw miss (among_front n xs ys (rw miss at h)))
+among_front n (x ∷ xs) ys h = grind (arith, among_front n xs ys)
 
 among_last : (n : ℕ) (xs : List ℕ) → among n (xs ++ n ∷ []) ≡ true
-among_last n [] = rw (eq_true n n refl) refl
-among_last n (x ∷ xs) = either_way (x == n) (λ hit. rw hit refl) (λ miss. rw miss (among_last n xs))
+among_last n [] = grind (arith, nat_tests)
+among_last n (x ∷ xs) = grind (arith, nat_tests, among_last n xs)
 
 -- without one of them, each other is still there
 record Without (n : ℕ) (xs : List ℕ) : Type 0 where
@@ -71,23 +106,15 @@ without : (n : ℕ) (xs : List ℕ) → among n xs ≡ true → Without n xs
 without n [] h = absurd cc
 without n (x ∷ xs) h =
     either_way (x == n)
-    (λ hit.
-    let same : x ≡ n = true_eq x n hit in
-    record {
+    (λ hit. let same : x ≡ n = true_eq x n hit in record {
       rest = xs;
-      is =
-          record { before = []; after = xs; there = ap (λ y. y ∷ xs) same; gone = refl };
-      others = λ m there other.
-          let off : (x == m) ≡ false = either_way (x == m)
-          (λ one.
-          let bad : (m == n) ≡ true = eq_true m n (sym (true_eq x m one) ∙ same) in absurd (false_true (sym bad ∙ other)))
-          (λ none. none) in
-          rw off at there;
+      is = record { before = []; after = xs; there = ap (λ y. y ∷ xs) same; gone = refl };
+      others = λ m there other. still m x xs there (subst (λ k. (m == k) ≡ false) (sym same) other);
     })
     (λ miss. without_cons n x xs (without n xs (rw miss at h)))
   where
-    false_true : true ≡ false → ⊥
-    false_true bad = cc
+    still : (m x : ℕ) (xs : List ℕ) → among m (x ∷ xs) ≡ true → (m == x) ≡ false → among m xs ≡ true
+    still m x xs there other = grind (arith, nat_tests)
 
 -- each number that is awaited is queued
 record IsServed (revision : ℕ) (core : Core) : Type 0 where
@@ -145,12 +172,7 @@ recalls_served revision (r ∷ rs) c d s h =
 
 -- and one that is awaited afterwards is another
 answered_other : (answer : Answer) (s : Row) (n : ℕ) → answered answer s ≡ awaits n → (n == answer.number) ≡ false
-answered_other answer nothing n out = absurd cc
-answered_other answer (awaits k) n out =
-    picked (k == answer.number) (given_by answer.value) (awaits k)
-    (λ hit is. absurd (given_none answer.value n (sym is ∙ out)))
-    (λ miss is. let same : k ≡ n = one_number k n (sym is ∙ out) in ap (λ m. m == answer.number) (sym same) ∙ miss)
-answered_other answer (holds v) n out = absurd cc
+answered_other answer s n out = grind (arith, nat_tests)
 
 -- to one that is, the job is taken, worked and collected
 collects_served : (revision : ℕ) (c : Core) (answer : Answer) → IsServed revision c → IsTrueAnswer c.entries answer
@@ -176,38 +198,14 @@ collects_served revision c answer s true_one =
         → IsServed revision (after_event c (collects answer))
     worked there w =
         let x = s.among_them in
-        let taken : Configuration =
-        record { core = x.core; queued = w.rest; taken = (0, answer.number) ∷ x.taken; answers = x.answers } in
-        let answered_one : Configuration =
-        record { core = x.core; queued = w.rest; taken = x.taken; answers = answer ∷ x.answers } in
+        let answered_one : Configuration = record x { queued = w.rest; answers = answer ∷ x.answers } in
         let collected : Configuration =
-        record {
-          core = after_event x.core (collects answer);
-          queued = w.rest;
-          taken = x.taken;
-          answers = x.answers;
-        } in
-        let first = reached_then revision x taken (takes 0 answer.number) s.reached
-        (record { core = refl; queued = w.is; taken = refl; answers = refl }) in
-        let second = reached_then revision taken answered_one (finishes 0 answer) first
-        (record {
-          value_is = subst (λ (k : Core). IsTrueAnswer k.entries answer) (sym s.is) true_one;
-          core = refl;
-          queued = refl;
-          taken = record { before = []; after = x.taken; there = refl; gone = refl };
-          answers = refl;
-        }) in
-        let third = reached_then revision answered_one collected (desk (collects answer)) second
-        (record {
-          can = tt;
-          core = refl;
-          queued = refl;
-          taken = refl;
-          answers = record { before = []; after = x.answers; there = refl; gone = refl };
-        }) in
+        record x { core = after_event x.core (collects answer); queued = w.rest } in
         record {
           among_them = collected;
-          reached = third;
+          reached = collected_then revision [] x.answers answer answered_one refl
+              (worked_then revision answer x w.rest w.is
+              (subst (λ (k : Core). IsTrueAnswer k.entries answer) (sym s.is) true_one) s.reached);
           is = ap (λ k. after_event k (collects answer)) s.is;
           queued = λ need n out.
               let was = answered_out answer (c.rows need) n out in

@@ -1,6 +1,5 @@
 -- Elements of lists by their ids, and what one of a list says.
-use Rattle.std.proofs.Common.{◌≡◌, ℕ, ◌<◌, Bool, true, false, List, [], ◌∷◌, None, Some, refl, subst, arith}
-use Rattle.std.specs.Prelude.{◌==◌}
+use Rattle.std.proofs.Common.{◌≡◌, ℕ, ◌<◌, Bool, true, false, List, [], ◌∷◌, None, Some, refl, arith}
 use Rattle.std.specs.List.{AllByRecursion, list_any}
 use Rattle.schedule.specs.Branches.{element_at}
 use Rattle.schedule.specs.Ids.{IdsRise, has_id}
@@ -10,9 +9,7 @@ use Rattle.desk_events.proofs.Shared.Tests.{either_way, eq_true, eq_false}
 pub any_so : {X Q : Type 0} (test : X → Bool) (P : X → Type 0) (xs : List X) → ((x : X) → P x → test x ≡ true → Q)
     → AllByRecursion P xs → list_any test xs ≡ true → Q
 any_so test P [] says all there = absurd cc
-any_so test P (x ∷ xs) says all there =
-    either_way (test x)
-    (λ hit. says x all.0 hit)
+any_so test P (x ∷ xs) says all there = either_way (test x) (says x all.0)
     (λ miss. any_so test P xs says all.1 (rw miss at there))
 
 -- what two facts of each element say
@@ -25,30 +22,17 @@ all_both P Q R (x ∷ xs) says ps qs = (says x ps.0 qs.0, all_both P Q R xs says
 pub found_any : {X : Type 0} (id : X → ℕ) (test : X → Bool) (xs : List X) (n : ℕ) (x : X) → element_at id xs n ≡ Some x
     → test x ≡ true → list_any test xs ≡ true
 found_any id test [] n x is pass = absurd cc
-found_any id test (y ∷ xs) n x is pass =
-    either_way (test y)
-    (λ here. rw here refl)
-    (λ off.
-    either_way (id y == n)
-    (λ hit. let one : Some y ≡ Some x = rw hit at is in let same : y ≡ x = cc in
-    absurd (let also : test x ≡ false = subst (λ z. test z ≡ false) same off in cc))
-    (λ miss. rw off (found_any id test xs n x (rw miss at is) pass)))
+found_any id test (y ∷ xs) n x is pass = grind (arith, found_any id test xs n x)
 
 -- where none is found, none has the id
 pub none_listed : {X : Type 0} (id : X → ℕ) (xs : List X) (n : ℕ) → element_at id xs n ≡ None → has_id id xs n ≡ false
 none_listed id [] n none = refl
-none_listed {X} id (x ∷ xs) n none =
-    either_way (id x == n)
-    (λ hit. absurd (let one : Some x ≡ None = rw hit at none in cc))
-    (λ miss. rw miss (none_listed id xs n (rw miss at none)))
+none_listed {X} id (x ∷ xs) n none = grind (arith, none_listed id xs n)
 
 pub found_listed : {X : Type 0} (id : X → ℕ) (xs : List X) (n : ℕ) (x : X) → element_at id xs n ≡ Some x
     → has_id id xs n ≡ true
 found_listed id [] n x is = absurd cc
-found_listed id (y ∷ xs) n x is =
-    either_way (id y == n)
-    (λ hit. rw hit refl)
-    (λ miss. rw miss (found_listed id xs n x (rw miss at is)))
+found_listed id (y ∷ xs) n x is = grind (arith, found_listed id xs n x)
 
 -- each element is the one that is found by its id
 pub each_found : {X : Type 0} (id : X → ℕ) (xs : List X) → IdsRise id xs

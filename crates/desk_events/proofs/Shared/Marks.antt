@@ -1,6 +1,7 @@
 -- The marks of a document that keeps its limits.
 use Rattle.std.proofs.Common.{◌≡◌, ℕ, ◌-◌, ◌%◌, ◌<◌, ◌≤◌, ◌^◌, ◌∙◌, true, false, nat_le, nat_lt, List, [], ◌∷◌, refl, sym, ap, ap₂, subst, arith, inl, inr, Option, Some}
 use Rattle.std.specs.Prelude.{◌==◌, ◌&&◌, ◌||◌}
+use Rattle.std.proofs.lemmas.Bool.Decides.{nat_tests}
 use Rattle.std.specs.Option.{option_map_or}
 use Rattle.std.specs.List.{list_any}
 use Rattle.std.proofs.lemmas.Bool.{and_parts}
@@ -22,7 +23,7 @@ use Rattle.desk_events.specs.declared.mark.Mark.{Mark}
 use Rattle.desk_events.specs.Wanted.{bookmark_in}
 use Rattle.desk_events.specs.Marks.{is_same, BeginsFrom, ComesBefore, Precedes, acts_within, bookmark_mark, forks_at, is_mark, is_start, mark_at, stands_at}
 use Rattle.desk_events.proofs.Shared.Listed.{any_so, each_found, found_listed}
-use Rattle.desk_events.proofs.Shared.Tests.{either_way, clash, true_eq, eq_true, true_lt, false_lt, true_le}
+use Rattle.desk_events.proofs.Shared.Tests.{either_way, clash, true_eq, true_lt, false_lt, true_le}
 
 -- marks that are one
 pub same_mark : (m n : Mark) → is_same m n ≡ true → m ≡ n
@@ -107,21 +108,7 @@ mark_placed p m sound there =
         → list_any (λ (x : Branch). x.id == m.branch && x.fork == m.generation) branches ≡ false
         → list_any (λ (x : Branch). x.parent == m.branch && x.fork == m.generation) branches ≡ true
     parted [] m there none = there
-    parted (x ∷ xs) m there none =
-        either_way (x.fork == m.generation)
-        (λ at.
-        either_way (x.id == m.branch)
-        (λ own. absurd (clash true refl (rw (own, at) at none)))
-        (λ other. either_way (x.parent == m.branch) (λ hit. rw (hit, at) refl)
-        (λ miss. rw miss (parted xs m (rw (other, miss) at there) (rw other at none)))))
-        (λ off.
-        either_way (x.id == m.branch)
-        (λ own. either_way (x.parent == m.branch)
-        (λ hit. rw (hit, off) (parted xs m (rw (own, off) at there) (rw (own, off) at none)))
-        (λ miss. rw miss (parted xs m (rw (own, off) at there) (rw (own, off) at none))))
-        (λ other. either_way (x.parent == m.branch)
-        (λ hit. rw (hit, off) (parted xs m (rw (other, hit, off) at there) (rw other at none)))
-        (λ miss. rw miss (parted xs m (rw (other, miss) at there) (rw other at none)))))
+    parted (x ∷ xs) m there none = grind (arith, parted xs m)
 
     placed_fork : (p : Plan) (m : Mark) → IsSound p → list_any (λ x. forks_at x m) p.branches ≡ true
         → IsPlaced p.branches m.branch m.generation
@@ -226,18 +213,7 @@ comes_le p before mark h =
 pub stands_mark : (bs : List Bookmark) (id : ℕ) (b : Bookmark) → bookmark_in bs id ≡ Some b
     → list_any (λ (c : Bookmark). stands_at c (bookmark_mark b)) bs ≡ true
 stands_mark [] id b is = absurd cc
-stands_mark (c ∷ bs) id b is =
-    either_way (c.id == id)
-    (λ hit.
-    let one : Some c ≡ Some b = rw hit at is in
-    let same : c ≡ b = cc in
-    rw (
-      eq_true c.branch b.branch (ap (λ (x : Bookmark). x.branch) same),
-      eq_true c.generation b.generation
-          (ap (λ (x : Bookmark). x.generation) same),
-    ) refl)
-    (λ miss. either_way (stands_at c (bookmark_mark b)) (λ here. rw here refl)
-    (λ off. rw off (stands_mark bs id b (rw miss at is))))
+stands_mark (c ∷ bs) id b is = grind (arith, nat_tests, stands_mark bs id b)
 
 pub bookmark_is_mark : (p : Plan) (id : ℕ) (b : Bookmark) → bookmark_in p.bookmarks id ≡ Some b
     → is_mark p (bookmark_mark b) ≡ true

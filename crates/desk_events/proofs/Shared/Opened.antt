@@ -32,12 +32,7 @@ opened_stands revision (Step branch mark) =
 opened_stands revision (View id) = tt
 
 pub opened_none : (revision : ℕ) (need : Need) (n : ℕ) → opened_row revision need ≡ awaits n → ⊥
-opened_none revision (Step branch mark) n out =
-    either_way (is_start (mark_at branch mark))
-    (λ hit. let is : opened_row revision (Step branch mark) ≡ holds (pattern blank) = rw hit refl in
-    let bad : holds (pattern blank) ≡ awaits n = sym is ∙ out in cc)
-    (λ miss. let is : opened_row revision (Step branch mark) ≡ nothing = rw miss refl in
-    let bad : nothing ≡ awaits n = sym is ∙ out in cc)
+opened_none revision (Step branch mark) n out = grind arith
 opened_none revision (View id) n out = cc
 
 pub opened_right : (revision : ℕ) → IsRight (opened revision)

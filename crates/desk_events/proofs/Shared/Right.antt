@@ -1,6 +1,7 @@
 -- Each event leaves a desk right.
 use Rattle.std.proofs.Common.{◌≡◌, ℕ, zero, suc, ◌<◌, ◌∙◌, Bool, true, false, List, [], ◌∷◌, ◌++◌, length, length-append, refl, sym, ap, ap₂, subst, arith, Option, None, Some}
 use Rattle.std.specs.Prelude.{if◌then◌else◌, ◌==◌, slice_get}
+use Rattle.std.proofs.lemmas.Bool.Decides.{nat_tests}
 use Rattle.std.proofs.lemmas.Bool.{and_parts}
 use Rattle.std.proofs.lemmas.Option.{slice_get-get_or, slice_get_within}
 use Rattle.std.proofs.Math.Seq.{get_or-append_seam}
@@ -14,7 +15,7 @@ use Rattle.rule_tree.specs.Rule.{next_of, states_of}
 use Rattle.schedule.specs.declared.branch.Branch.{Branch}
 use Rattle.schedule.specs.declared.document.Bookmark.{Bookmark}
 use Rattle.schedule.specs.declared.fault.EditFault.{EditFault}
-use Rattle.schedule.specs.Asked.{Asked, InsertIntervention, ChangeIntervention, InsertRepeat, ChangeRepeat, RemoveIntervention, SetCells, ReplaceStart, ReplaceRule, AddBookmark, MoveBookmark, RemoveBookmark, AddBranch, RemoveBranch}
+use Rattle.schedule.specs.Asked.{Asked, ReplaceRule}
 use Rattle.schedule.specs.Change.{changed, refusal, unless_refused}
 use Rattle.schedule.specs.Plan.{Plan}
 use Rattle.schedule.specs.Scratch.{arrival}
@@ -181,12 +182,7 @@ given_none None n h = cc
 given_none (Some v) n h = cc
 
 pub answered_out : (answer : Answer) (s : Row) (n : ℕ) → answered answer s ≡ awaits n → s ≡ awaits n
-answered_out answer nothing n out = out
-answered_out answer (awaits k) n out =
-    picked (k == answer.number) (given_by answer.value) (awaits k)
-    (λ hit is. absurd (given_none answer.value n (sym is ∙ out)))
-    (λ miss is. sym is ∙ out)
-answered_out answer (holds v) n out = out
+answered_out answer s n out = grind (arith, nat_tests)
 
 pub collects_right : (c : Core) (answer : Answer) → IsRight c → IsTrueAnswer c.entries answer
     → IsRight (after_event c (collects answer))
@@ -198,16 +194,12 @@ collects_right c answer right true_one =
 -- an answer to a number that isn't awaited changes nothing
 pub unawaited : (answer : Answer) (s : Row) → ((n : ℕ) → s ≡ awaits n → (n == answer.number) ≡ false)
     → answered answer s ≡ s
-unawaited answer nothing off = refl
-unawaited answer (awaits n) off = rw (off n refl) refl
-unawaited answer (holds v) off = refl
+unawaited answer s off = grind (arith, nat_tests)
 
 -- a job is cancelled
 
 pub uncancelled : (number : ℕ) (s : Row) → ((n : ℕ) → s ≡ awaits n → (n == number) ≡ false) → cancelled number s ≡ s
-uncancelled number nothing off = refl
-uncancelled number (awaits n) off = rw (off n refl) refl
-uncancelled number (holds v) off = refl
+uncancelled number s off = grind (arith, nat_tests)
 
 cancels_row : (c : Core) (need : Need) (number : ℕ) (s : Row) → Stands c.entries c.plan need s
     → Stands c.entries c.plan need (cancelled number s)
@@ -219,12 +211,7 @@ cancels_row c need number (awaits n) stands =
 cancels_row c need number (holds v) stands = stands
 
 pub cancelled_out : (number : ℕ) (s : Row) (n : ℕ) → cancelled number s ≡ awaits n → s ≡ awaits n
-cancelled_out number nothing n out = out
-cancelled_out number (awaits k) n out =
-    picked (k == number) nothing (awaits k)
-    (λ hit is. absurd (nothing_awaits n (sym is ∙ out)))
-    (λ miss is. sym is ∙ out)
-cancelled_out number (holds v) n out = out
+cancelled_out number s n out = grind (arith, nat_tests)
 
 pub cancels_right : (c : Core) (number : ℕ) → IsRight c → IsRight (after_event c (cancels number))
 cancels_right c number right =
@@ -242,10 +229,10 @@ same_comes s t h = λ i. came (h.rule i) (h.from i) (h.cells i) (h.gens i)
 
 pub recalled_out : (need other : Need) (v : Value) (s : Row) (n : ℕ)
     → (if is_need need other then holds v else s) ≡ awaits n → s ≡ awaits n
-recalled_out need other v s n out =
-    picked (is_need need other) (holds v) s
-    (λ hit is. absurd (holds_awaits v n (sym is ∙ out)))
-    (λ miss is. sym is ∙ out)
+recalled_out need other v s n out = by_test (is_need need other) out
+  where
+    by_test : (b : Bool) → (if b then holds v else s) ≡ awaits n → s ≡ awaits n
+    by_test b is = grind arith
 
 pub recalls_right : (c : Core) (mark : Mark) (number : ℕ) (s : Stepping) → IsRight c → CanRecall c mark number s
     → IsRight (after_event c (recalls mark number s))
@@ -318,33 +305,19 @@ kept_stands es p known asked felt (View id) row sound free arrives from stands =
 pub kept_out : (p : Plan) (asked : Asked) (felt : Option Mark) (q : Plan) (need : Need) (row : Row) (n : ℕ)
     → kept_row p asked felt q need row ≡ awaits n → row ≡ awaits n
 kept_out p asked felt q (Step branch mark) row n out =
-    let m = mark_at branch mark in
-    let left : Row = if stays_mark felt p q m then row else nothing in
-    picked (is_start m) (holds (pattern q.start)) left
-    (λ hit is. absurd (holds_awaits (pattern q.start) n (sym is ∙ out)))
-    (λ miss is.
-    picked (stays_mark felt p q m) row nothing
-    (λ on stays. sym stays ∙ sym is ∙ out)
-    (λ off gone. absurd (nothing_awaits n (sym gone ∙ sym is ∙ out))))
-kept_out p asked felt q (View id) row n out =
-    picked (keeps p asked felt q (View id)) row nothing
-    (λ on stays. sym stays ∙ out)
-    (λ off gone. absurd (nothing_awaits n (sym gone ∙ out)))
+    by_tests (is_start (mark_at branch mark)) (stays_mark felt p q (mark_at branch mark)) (pattern q.start) row out
+  where
+    by_tests : (a b : Bool) (v : Value) (row : Row) → (if a then holds v else if b then row else nothing) ≡ awaits n
+        → row ≡ awaits n
+    by_tests a b v row is = grind arith
+kept_out p asked felt q (View id) row n out = by_test (keeps p asked felt q (View id)) out
+  where
+    by_test : (b : Bool) → (if b then row else nothing) ≡ awaits n → row ≡ awaits n
+    by_test b is = grind arith
 
 has_states : (asked : Asked) → MayBeAsked asked → HasStates asked
-has_states (InsertIntervention branch generation cells) h = tt
-has_states (ChangeIntervention id generation cells) h = tt
-has_states (InsertRepeat branch first every last cells) h = tt
-has_states (ChangeRepeat id first every last cells) h = tt
-has_states (RemoveIntervention id) h = tt
-has_states (SetCells cells) h = tt
-has_states (ReplaceStart start) h = tt
 has_states (ReplaceRule rule) h = (let two = h.0 in omega (arith, two), h.1)
-has_states (AddBookmark branch generation view) h = tt
-has_states (MoveBookmark id generation) h = tt
-has_states (RemoveBookmark id) h = tt
-has_states (AddBranch parent generation) h = tt
-has_states (RemoveBranch branch) h = tt
+has_states asked h = tt
 
 -- the document keeps its limits, which the law takes from the edit before, or a caller from its
 -- document

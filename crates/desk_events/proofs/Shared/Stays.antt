@@ -8,7 +8,7 @@ use Rattle.schedule.specs.Plan.{Plan}
 use Rattle.schedule.specs.Scratch.{scratch}
 use Rattle.revision_jobs.specs.Value.{Value, pattern, text}
 use Rattle.desk_events.specs.declared.need.Need.TheVariants.{View}
-use Rattle.desk_events.specs.Configuration.{AnswersAfter, Configuration, HappenAll, Happening, Happens, HappensToDesk, IsWithout, abandons, desk, echoes, finishes, loses_answer, loses_job, opened_among, takes}
+use Rattle.desk_events.specs.Configuration.{AnswersAfter, Configuration, HappenAll, Happening, Happens, HappensToDesk, IsWithout, desk, echoes, finishes, loses_answer, opened_among}
 use Rattle.desk_events.specs.Core.{Answer, Core, Row, awaits, holds, nothing, shown, shown_for}
 use Rattle.desk_events.specs.Entry.{Entry}
 use Rattle.desk_events.specs.Event.{CanHappen, Event, IsTrueAnswer, after_edit, after_event, cancels, collects, edits, issues, recalls}
@@ -83,10 +83,7 @@ event_right (recalls mark number s) c d kept h = recalls_right c.core mark numbe
 event_some : (event : Event) (c : Core) → 0 < states_of c.plan.rule → CanHappen c event
     → 0 < states_of (after_event c event).plan.rule
 event_some (edits asked felt) c some can = edits_some c asked felt some can.rule
-event_some (issues need entry) c some can = some
-event_some (collects answer) c some can = some
-event_some (cancels number) c some can = some
-event_some (recalls mark number s) c some can = some
+event_some event c some can = some
 
 event_answers : (event : Event) (c : Core) (before after : List Answer)
     → AllByRecursion (IsTrueAnswer c.entries) before → AnswersAfter event before after
@@ -97,9 +94,7 @@ event_answers (edits asked felt) c before after all h =
 event_answers (issues need entry) c before after all h =
     subst (AllByRecursion (IsTrueAnswer (c.entries ++ entry ∷ []))) (sym h) (all_more c.entries entry before all)
 event_answers (collects answer) c before after all h = (one_of (IsTrueAnswer c.entries) answer before after h all).1
-event_answers (cancels number) c before after all h = subst (AllByRecursion (IsTrueAnswer c.entries)) (sym h) all
-event_answers (recalls mark number s) c before after all h =
-    subst (AllByRecursion (IsTrueAnswer c.entries)) (sym h) all
+event_answers event c before after all h = subst (AllByRecursion (IsTrueAnswer c.entries)) (sym h) all
 
 -- a configuration of the same desk, with true answers
 kept_by : (c d : Configuration) → IsKept c → d.core ≡ c.core → AllByRecursion (IsTrueAnswer c.core.entries) d.answers
@@ -121,18 +116,16 @@ happens_kept (desk event) c d kept h = record {
   answers = subst (λ (k : Core). AllByRecursion (IsTrueAnswer k.entries) d.answers) (sym h.core)
       (event_answers event c.core c.answers d.answers kept.answers h.answers);
 }
-happens_kept (takes worker number) c d kept h = kept_by c d kept h.core (same_answers c d kept h.answers)
 happens_kept (finishes worker answer) c d kept h =
     kept_by c d kept h.core
     (subst (AllByRecursion (IsTrueAnswer c.core.entries)) (sym h.answers) (h.value_is, kept.answers))
-happens_kept (abandons worker number) c d kept h = kept_by c d kept h.core (same_answers c d kept h.answers)
-happens_kept (loses_job number) c d kept h = kept_by c d kept h.core (same_answers c d kept h.answers)
 happens_kept (loses_answer answer) c d kept h =
     kept_by c d kept h.core (one_of (IsTrueAnswer c.core.entries) answer c.answers d.answers h.answers kept.answers).1
 happens_kept (echoes answer) c d kept h =
     let parts = one_of (IsTrueAnswer c.core.entries) answer c.answers h.others h.there kept.answers in
     kept_by c d kept h.core
     (subst (AllByRecursion (IsTrueAnswer c.core.entries)) (sym h.answers) (parts.0, kept.answers))
+happens_kept happening c d kept h = kept_by c d kept h.core (same_answers c d kept h.answers)
 
 happen_kept : (hs : List Happening) (c e : Configuration) → IsKept c → HappenAll hs c e → IsKept e
 happen_kept [] c e kept h = subst IsKept (sym h) kept

@@ -1,16 +1,17 @@
 -- Where an edit changes what interventions set.
-use Rattle.std.proofs.Common.{◌≡◌, ℕ, ◌<◌, ◌≤◌, ◌∙◌, ◌++◌, false, not, ◌&&◌, nat_le, List, [], ◌∷◌, refl, sym, ap, ap₂, subst, arith, append-nil, Option, None, Some}
+use Rattle.std.proofs.Common.{◌≡◌, ℕ, ◌<◌, ◌≤◌, ◌∙◌, ◌++◌, false, ◌&&◌, nat_le, List, [], ◌∷◌, refl, sym, ap, ap₂, subst, arith, append-nil, Option, None, Some}
 use Rattle.std.specs.Prelude.{◌==◌, min}
+use Rattle.std.proofs.lemmas.Bool.Decides.{nat_tests}
 use Rattle.std.specs.List.{AllByRecursion}
 use Rattle.std.specs.Option.{option_map}
-use Rattle.std.proofs.lemmas.Bool.{and_from, and_parts, cond-false, cond-true}
+use Rattle.std.proofs.lemmas.Bool.{and_from, and_parts}
 use Rattle.std.proofs.lemmas.Grind.{flat_map-append}
 use Rattle.worlds.specs.declared.cell.CellSet.{CellSet}
 use Rattle.schedule.specs.declared.acts.Acts.{Acts}
 use Rattle.schedule.specs.declared.acts.Acts.TheVariants.{Once, Every}
 use Rattle.schedule.specs.declared.document.Intervention.{Intervention}
 use Rattle.schedule.specs.Acts.{acts_on, first_of}
-use Rattle.schedule.specs.Asked.{Asked, InsertIntervention, ChangeIntervention, InsertRepeat, ChangeRepeat, RemoveIntervention, SetCells, ReplaceStart, ReplaceRule, AddBookmark, MoveBookmark, RemoveBookmark, AddBranch, RemoveBranch}
+use Rattle.schedule.specs.Asked.{Asked, InsertIntervention, ChangeIntervention, InsertRepeat, ChangeRepeat, RemoveIntervention}
 use Rattle.schedule.specs.Branches.{element_at}
 use Rattle.schedule.specs.Change.{acting, changed, next_intervention}
 use Rattle.schedule.specs.Ids.{IdsRise, changed_at, intervention_id, without}
@@ -21,7 +22,7 @@ use Rattle.schedule.specs.Sound.{IsSound}
 use Rattle.schedule.proofs.Shared.Acts.{acts-from}
 use Rattle.desk_events.specs.declared.touched.Touched.{Touched}
 use Rattle.desk_events.specs.Felt.{added, first_touched, moved, removed, touched_by}
-use Rattle.desk_events.proofs.Shared.Tests.{clash, either_way, eq_false, eq_true, le_true, true_eq}
+use Rattle.desk_events.proofs.Shared.Tests.{clash, either_way, eq_true, le_true, true_eq}
 use Rattle.desk_events.proofs.Shared.Walk.{own_cells-other}
 
 -- two lists set the same cells but where what is touched acts, before or after; and where nothing
@@ -50,10 +51,7 @@ untouched_inserted is i b g was now =
 changed_above : (f : Intervention → Intervention) (is : List Intervention) (id : ℕ)
     → AllByRecursion (λ j. id < intervention_id j) is → changed_at intervention_id f is id ≡ is
 changed_above f [] id h = refl
-changed_above f (i ∷ is) id h =
-    ap₂ (λ j js. j ∷ js)
-    (cond-false (i.id == id) (f i) i (eq_false i.id id (let k : id < i.id = h.0 in λ same. omega (arith, same, k))))
-    (changed_above f is id h.1)
+changed_above f (i ∷ is) id h = grind (arith, nat_tests, changed_above f is id h.1)
 
 untouched_changed : (is : List Intervention) (id : ℕ) (acts : Acts) (cells : List CellSet) → IdsRise intervention_id is
     → SameUntouched is (changed_at intervention_id (acting acts cells) is id)
@@ -78,11 +76,7 @@ untouched_changed (i ∷ is) id acts cells rise =
 without_above : (is : List Intervention) (id : ℕ) → AllByRecursion (λ j. id < intervention_id j) is
     → without intervention_id is id ≡ is
 without_above [] id h = refl
-without_above (i ∷ is) id h =
-    let rest = without intervention_id is id in
-    cond-true (not (i.id == id)) (i ∷ rest) rest
-    (ap not (eq_false i.id id (let k : id < i.id = h.0 in λ same. omega (arith, same, k))))
-    ∙ ap (λ js. i ∷ js) (without_above is id h.1)
+without_above (i ∷ is) id h = grind (arith, nat_tests, without_above is id h.1)
 
 untouched_removed : (is : List Intervention) (id : ℕ) → IdsRise intervention_id is
     → SameUntouched is (without intervention_id is id) (option_map removed (element_at intervention_id is id))
@@ -112,14 +106,7 @@ untouched p (InsertRepeat branch first every last cells) sound =
 untouched p (ChangeRepeat id first every last cells) sound =
     untouched_changed p.interventions id (Every first every last) cells sound.interventions_rise
 untouched p (RemoveIntervention id) sound = untouched_removed p.interventions id sound.interventions_rise
-untouched p (SetCells cells) sound = refl
-untouched p (ReplaceStart start) sound = refl
-untouched p (ReplaceRule rule) sound = refl
-untouched p (AddBookmark branch generation view) sound = refl
-untouched p (MoveBookmark id generation) sound = refl
-untouched p (RemoveBookmark id) sound = refl
-untouched p (AddBranch parent generation) sound = refl
-untouched p (RemoveBranch n) sound = refl
+untouched p asked sound = refl
 
 -- before it first acts nothing is touched
 
