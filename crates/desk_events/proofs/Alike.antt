@@ -1,5 +1,5 @@
 -- An edit that is felt nowhere leaves the patterns as they are.
-use Rattle.std.proofs.Common.{◌≡◌, ℕ, ◌≤◌, true, ◌&&◌, refl, sym, ap, subst, Option, None, Some}
+use Rattle.std.proofs.Common.{◌≡◌, ℕ, ◌≤◌, true, ◌&&◌, refl, sym, arith, ap, subst, Option, None, Some}
 use Rattle.std.specs.Prelude.{◌==◌}
 use Rattle.std.proofs.lemmas.Bool.{and_parts}
 use Rattle.worlds.specs.World.{World}
@@ -28,9 +28,7 @@ LaysAlike p q m = after p m.branch m.generation ≡ lay (cells_of q.intervention
 where_known : (p q : Plan) (m : Mark) (o : Option World)
     → ((w : World) → o ≡ Some w → w ≡ arrival p m.branch m.generation) → LayAlikeOn o (cells_of p.interventions m)
     (cells_of q.interventions m) → LaysAlike p q m
-where_known p q m None arrives h = absurd h
-where_known p q m (Some w) arrives h =
-    subst (λ v. lay (cells_of p.interventions m) v ≡ lay (cells_of q.interventions m) v) (arrives w refl) h
+where_known p q m o arrives h = grind arith
 
 elsewhere : (p q : Plan) (m : Mark) → cells_of p.interventions m ≡ cells_of q.interventions m → LaysAlike p q m
 elsewhere p q m same = ap (λ cs. lay cs (arrival p m.branch m.generation)) same

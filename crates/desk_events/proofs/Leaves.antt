@@ -2,7 +2,7 @@
 use Rattle.std.proofs.Common.{◌≡◌, ℕ, zero, suc, ◌+◌, ◌<◌, ◌≤◌, ◌∙◌, Bool, true, false, not, ◌&&◌, nat_lt, List, [], ◌∷◌, refl, sym, ap, ap₂, arith, Option, None, Some}
 use Rattle.std.specs.Prelude.{◌==◌}
 use Rattle.std.proofs.lemmas.Bool.Decides.{nat_tests}
-use Rattle.std.proofs.lemmas.Bool.{and_from, and_right, or_from}
+use Rattle.std.proofs.lemmas.Bool.{or_from}
 use Rattle.worlds.specs.Lay.{lay}
 use Rattle.rule_tree.specs.Rule.{name_of, states_of}
 use Rattle.bookmarks.specs.Text.{text_of}
@@ -31,7 +31,7 @@ use Rattle.desk_events.specs.Felt.{felt_from, first_touched, from_touched, touch
 use Rattle.desk_events.specs.Kept.{keeps_arrival, leaves_after}
 use Rattle.desk_events.specs.Marks.{bookmark_mark, is_mark, is_start, mark_at}
 use Rattle.desk_events.proofs.Shared.Marks.{mark_placed}
-use Rattle.desk_events.proofs.Shared.Tests.{clash, either_way, eq_false, eq_true, false_eq, lt_false, lt_true, true_eq, true_lt}
+use Rattle.desk_events.proofs.Shared.Tests.{clash, either_way, eq_true, false_eq, true_eq}
 use Rattle.desk_events.proofs.Shared.Touching.{SameUntouched, untouched, untouched_elsewhere}
 
 -- what isn't felt
@@ -51,19 +51,16 @@ unfelt_next branches from m h =
     (λ hit.
     let below : nat_lt g k ≡ true = rw hit at h in
     let here : (b == c) ≡ true = eq_true b c (sym (true_eq c b hit)) in
-    felt-here branches b (g + 1) c k (λ off. clash (b == c) here off)
-    ∙ and_right (b == c) (nat_lt k (g + 1))
-    (lt_false k (g + 1) (let under = true_lt g k below in omega (arith, under))))
+    felt-here branches b (g + 1) c k (λ off. clash (b == c) here off) ∙ grind (arith, nat_tests))
     (λ miss.
     let kept : not (is_felt branches b b g c k) ≡ true = rw miss at h in
-    let other : (b == c) ≡ false = eq_false b c (λ same. clash (c == b) (eq_true c b (sym same)) miss) in
+    let other : (b == c) ≡ false = grind (arith, nat_tests) in
     felt-apart branches b b (g + 1) g c k other ∙ not_true (is_felt branches b b g c k) kept)
 
 -- all but the start stands on the start
 
 felt_root : (branches : List Branch) (b g : ℕ) → b ≡ 0 → 0 < g → is_felt branches b b g 0 0 ≡ true
-felt_root branches b g zero_b above = felt-here branches b g 0 0 (λ _. zero_b)
-    ∙ and_from (b == 0) (nat_lt 0 g) (eq_true b 0 zero_b) (lt_true 0 g above)
+felt_root branches b g zero_b above = grind (arith, nat_tests, felt-here branches b g 0 0 (λ _. zero_b))
 
 felt_start : (branches : List Branch) → ParentsComeBefore branches → (n b g : ℕ) → b ≤ n → (b ≡ 0 → 0 < g)
     → is_felt branches b b g 0 0 ≡ true
@@ -117,14 +114,9 @@ none_without (x ∷ xs) n = grind (arith, none_without xs n)
 gone : (p : Plan) (n b : ℕ) → is_in_use p n ≡ false → has_branch (without branch_id p.branches n) b ≡ true
     → (b == n) ≡ false
 gone p n b free there =
-    either_way (b == n)
-    (λ hit.
-    let none : has_branch (without branch_id p.branches n) n ≡ false =
-    or_from (n == 0) (has_id branch_id (without branch_id p.branches n) n) (unused p n free).beside
+    let none = or_from (n == 0) (has_id branch_id (without branch_id p.branches n) n) (unused p n free).beside
     (none_without p.branches n) in
-    clash (has_branch (without branch_id p.branches n) b) there
-    (ap (has_branch (without branch_id p.branches n)) (true_eq b n hit) ∙ none))
-    (λ miss. miss)
+    grind (arith, nat_tests)
 
 none_shown : (bs : List Bookmark) (n id : ℕ) (b : Bookmark) → has_bookmarks bs n ≡ false → bookmark_in bs id ≡ Some b
     → (b.branch == n) ≡ false

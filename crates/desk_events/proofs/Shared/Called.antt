@@ -185,14 +185,10 @@ collects_served revision c answer s true_one =
     unchanged : among answer.number s.among_them.queued ≡ false → after_event c (collects answer) ≡ c
     unchanged none =
         ap (λ (rows : Need → Row). record c { rows = rows })
-        (fun_ext (λ need. unawaited answer (c.rows need)
-        (λ n is.
-        either_way (n == answer.number)
-        (λ hit.
-        let queued = s.queued need n is in
-        let same : n ≡ answer.number = true_eq n answer.number hit in
-        let bad : true ≡ false = sym queued ∙ ap (λ m. among m s.among_them.queued) same ∙ none in cc)
-        (λ miss. miss))))
+        (fun_ext (λ need. unawaited answer (c.rows need) (λ n is. off need n (s.queued need n is))))
+      where
+        off : (need : Need) (n : ℕ) → among n s.among_them.queued ≡ true → (n == answer.number) ≡ false
+        off need n there = grind (arith, nat_tests)
 
     worked : among answer.number s.among_them.queued ≡ true → Without answer.number s.among_them.queued
         → IsServed revision (after_event c (collects answer))
@@ -238,9 +234,8 @@ event_served revision c (issues need entry) s can true_one =
     })
     (λ other n out.
     picked (is_need need other) (awaits k) (c.rows other)
-    (λ hit is.
-    let same : k ≡ n = one_number k n (sym is ∙ out) in
-    subst (λ m. among m (s.among_them.queued ++ k ∷ []) ≡ true) same (among_last k s.among_them.queued))
+    (λ hit is. subst (λ m. among m (s.among_them.queued ++ k ∷ []) ≡ true) (one_number k n (sym is ∙ out))
+    (among_last k s.among_them.queued))
     (λ miss is. among_front n s.among_them.queued (k ∷ []) (s.queued other n (sym is ∙ out))))
 event_served revision c (collects answer) s can true_one = collects_served revision c answer s true_one
 event_served revision c (cancels number) s can true_one =

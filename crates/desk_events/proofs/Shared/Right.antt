@@ -1,5 +1,5 @@
 -- Each event leaves a desk right.
-use Rattle.std.proofs.Common.{◌≡◌, ℕ, zero, suc, ◌<◌, ◌∙◌, Bool, true, false, List, [], ◌∷◌, ◌++◌, length, length-append, refl, sym, ap, ap₂, subst, arith, Option, None, Some}
+use Rattle.std.proofs.Common.{◌≡◌, ℕ, zero, suc, ◌<◌, ◌∙◌, Bool, true, false, List, [], ◌∷◌, ◌++◌, length, length-append, refl, sym, ap, ap₂, subst, arith, inl, inr, ◌⊎◌, Option, None, Some}
 use Rattle.std.specs.Prelude.{if◌then◌else◌, ◌==◌, slice_get}
 use Rattle.std.proofs.lemmas.Bool.Decides.{nat_tests}
 use Rattle.std.proofs.lemmas.Bool.{and_parts}
@@ -21,12 +21,12 @@ use Rattle.schedule.specs.Plan.{Plan}
 use Rattle.schedule.specs.Scratch.{arrival}
 use Rattle.schedule.specs.Sound.{IsSound}
 use Rattle.schedule.proofs.Shared.Changed.{HasStates, sound_changed, some_changed}
-use Rattle.revision_jobs.specs.Value.{Value, pattern, text}
+use Rattle.revision_jobs.specs.Value.{Value, pattern}
 use Rattle.desk_events.specs.declared.mark.Mark.{Mark}
 use Rattle.desk_events.specs.declared.need.Need.{Need}
 use Rattle.desk_events.specs.declared.need.Need.TheVariants.{Step, View}
 use Rattle.desk_events.specs.Core.{Answer, Core, Row, arrival_in, awaits, holds, nothing, world_in}
-use Rattle.desk_events.specs.Entry.{AreSameSteps, Entry, Stepping, value, world_after}
+use Rattle.desk_events.specs.Entry.{AreSameSteps, Entry, Stepping, world_after}
 use Rattle.desk_events.specs.Event.{CanEdit, CanIssue, CanRecall, IsTrueAnswer, MayBeAsked, after_edit, after_event, answered, cancelled, cancels, collects, edits, given_by, issues, kept_row, recalls}
 use Rattle.desk_events.specs.Felt.{IsFelt}
 use Rattle.desk_events.specs.Kept.{keeps, keeps_bookmark, stays_mark}
@@ -65,14 +65,7 @@ known_arrives c right m w is = of_row (c.rows (step_to m)) is (right.stands (ste
   where
     of_row : (s : Row) → world_in s ≡ Some w → Stands c.entries c.plan (step_to m) s
         → w ≡ arrival c.plan m.branch m.generation
-    of_row nothing h stands = absurd cc
-    of_row (awaits n) h stands = absurd cc
-    of_row (holds (pattern v)) h stands =
-        let same : v ≡ w = cc in
-        let right_one : Some (pattern (arrival c.plan m.branch m.generation)) ≡ Some (pattern v) = stands in
-        let world : arrival c.plan m.branch m.generation ≡ v = cc in
-        sym same ∙ sym world
-    of_row (holds (text bytes)) h stands = absurd cc
+    of_row s h stands = grind arith
 
 -- a number that is awaited was given
 pub below_given : (c : Core) (need : Need) (n : ℕ) → IsRight c → c.rows need ≡ awaits n → n < length c.entries
@@ -90,12 +83,6 @@ with_rows c rows right stands out = record {
   few = right.few;
 }
 
-nothing_awaits : (n : ℕ) → nothing ≡ awaits n → ⊥
-nothing_awaits n h = cc
-
-holds_awaits : (v : Value) (n : ℕ) → holds v ≡ awaits n → ⊥
-holds_awaits v n h = cc
-
 pub one_number : (m n : ℕ) → awaits m ≡ awaits n → m ≡ n
 one_number m n h = cc
 
@@ -103,10 +90,9 @@ one_number m n h = cc
 
 stands_more : (es : List Entry) (e : Entry) (p : Plan) (need : Need) (s : Row) → Stands es p need s
     → Stands (es ++ e ∷ []) p need s
-stands_more es e p need nothing h = tt
 stands_more es e p need (awaits n) h =
     record { entry = h.entry; there = get_left es (e ∷ []) n h.entry h.there; gives = h.gives }
-stands_more es e p need (holds v) h = h
+stands_more es e p need s h = h
 
 -- a number is given
 pub more_right : (c : Core) (entry : Entry) → IsRight c → length c.entries < 16777216
@@ -139,47 +125,40 @@ issues_right c need entry right can =
           subst (Stands more c.plan other) (sym is)
           (stands_more c.entries entry c.plan other (c.rows other) (right.stands other)));
       once = λ a b k out other.
-          picked (is_need need a) (awaits n) (c.rows a)
-          (λ a_hit a_is.
-          let here : n ≡ k = one_number n k (sym a_is ∙ out) in
-          picked (is_need need b) (awaits n) (c.rows b)
-          (λ b_hit b_is. sym (need_is need a a_hit) ∙ need_is need b b_hit)
-          (λ b_miss b_is. absurd
-          (let under = below_given c b k right (sym b_is ∙ other) in omega (arith, under, here))))
-          (λ a_miss a_is.
-          picked (is_need need b) (awaits n) (c.rows b)
-          (λ b_hit b_is.
-          let here : n ≡ k = one_number n k (sym b_is ∙ other) in
-          absurd (let under = below_given c a k right (sym a_is ∙ out) in omega (arith, under, here)))
-          (λ b_miss b_is. right.once a b k (sym a_is ∙ out) (sym b_is ∙ other)));
+          grind (
+            arith,
+            right.once a b k,
+            below_given c a k right,
+            below_given c b k right,
+            newly a k out,
+            newly b k other,
+          );
       few = let long = length-append c.entries (entry ∷ []) in let few = can.few in omega (arith, few, long);
     }
+  where
+    newly : (other : Need) (k : ℕ) → (if is_need need other then awaits (length c.entries) else c.rows other) ≡ awaits k
+        → ((need ≡ other) × (length c.entries ≡ k)) ⊎ (c.rows other ≡ awaits k)
+    newly other k out =
+        picked (is_need need other) (awaits (length c.entries)) (c.rows other)
+        (λ hit is. inl (need_is need other hit, one_number (length c.entries) k (sym is ∙ out)))
+        (λ miss is. inr (sym is ∙ out))
 
 -- an answer is collected
 
 gives_found : (c : Core) (need : Need) (k n : ℕ) (value_is : Option Value) → k ≡ n → IsTrueAnswer c.entries
     (record { number = n; value = value_is }) → GivesWanted c.entries c.plan need k
     → Stands c.entries c.plan need (given_by value_is)
-gives_found c need k n None same true_one h = tt
-gives_found c need k n (Some v) same true_one h =
-    let one : Some h.entry ≡ Some true_one.entry = sym h.there ∙ ap (slice_get c.entries) same ∙ true_one.there in
-    let entry : h.entry ≡ true_one.entry = cc in
-    h.gives ∙ ap (λ e. Some (value e)) entry ∙ ap (λ w. Some w) (sym true_one.is)
+gives_found c need k n value_is same true_one h = grind arith
 
 collects_row : (c : Core) (need : Need) (answer : Answer) (s : Row) → IsTrueAnswer c.entries answer
     → Stands c.entries c.plan need s → Stands c.entries c.plan need (answered answer s)
-collects_row c need answer nothing true_one stands = tt
 collects_row c need answer (awaits n) true_one stands =
     picked (n == answer.number) (given_by answer.value) (awaits n)
     (λ hit is.
     subst (Stands c.entries c.plan need) (sym is)
     (gives_found c need n answer.number answer.value (true_eq n answer.number hit) true_one stands))
     (λ miss is. subst (Stands c.entries c.plan need) (sym is) stands)
-collects_row c need answer (holds v) true_one stands = stands
-
-pub given_none : (value_is : Option Value) (n : ℕ) → given_by value_is ≡ awaits n → ⊥
-given_none None n h = cc
-given_none (Some v) n h = cc
+collects_row c need answer s true_one stands = stands
 
 pub answered_out : (answer : Answer) (s : Row) (n : ℕ) → answered answer s ≡ awaits n → s ≡ awaits n
 answered_out answer s n out = grind (arith, nat_tests)
@@ -203,12 +182,7 @@ uncancelled number s off = grind (arith, nat_tests)
 
 cancels_row : (c : Core) (need : Need) (number : ℕ) (s : Row) → Stands c.entries c.plan need s
     → Stands c.entries c.plan need (cancelled number s)
-cancels_row c need number nothing stands = tt
-cancels_row c need number (awaits n) stands =
-    picked (n == number) nothing (awaits n)
-    (λ hit is. subst (Stands c.entries c.plan need) (sym is) tt)
-    (λ miss is. subst (Stands c.entries c.plan need) (sym is) stands)
-cancels_row c need number (holds v) stands = stands
+cancels_row c need number s stands = grind arith
 
 pub cancelled_out : (number : ℕ) (s : Row) (n : ℕ) → cancelled number s ≡ awaits n → s ≡ awaits n
 cancelled_out number s n out = grind (arith, nat_tests)
@@ -255,9 +229,8 @@ recalls_right c mark number s right can =
 
 same_stands : (es : List Entry) (p q : Plan) (need : Need) (s : Row) → wanted q need ≡ wanted p need
     → Stands es p need s → Stands es q need s
-same_stands es p q need nothing same h = tt
 same_stands es p q need (awaits n) same h = record { entry = h.entry; there = h.there; gives = same ∙ h.gives }
-same_stands es p q need (holds v) same h = same ∙ h
+same_stands es p q need s same h = grind arith
 
 -- what is kept of a bookmark's row is that of a bookmark which is there
 keeps_there : (branches : List Branch) (p : Plan) (asked : Asked) (felt : Option Mark) (id : ℕ)

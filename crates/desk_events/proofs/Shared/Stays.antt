@@ -1,15 +1,13 @@
 -- Whatever happens, the desk is right.
-use Rattle.std.proofs.Common.{◌≡◌, ◌⊎◌, ℕ, ◌<◌, ◌∙◌, List, [], ◌∷◌, ◌++◌, refl, sym, ap, subst, inl, inr, arith, Option, None, Some}
-use Rattle.std.specs.Prelude.{IsSome}
+use Rattle.std.proofs.Common.{◌≡◌, ◌⊎◌, ℕ, ◌<◌, List, [], ◌∷◌, ◌++◌, refl, sym, subst, inl, inr, arith, Option, None, Some}
 use Rattle.std.specs.List.{AllByRecursion}
 use Rattle.rule_tree.specs.Rule.{states_of, states_of-still}
 use Rattle.schedule.specs.declared.document.Bookmark.{Bookmark}
 use Rattle.schedule.specs.Plan.{Plan}
-use Rattle.schedule.specs.Scratch.{scratch}
-use Rattle.revision_jobs.specs.Value.{Value, pattern, text}
+use Rattle.revision_jobs.specs.Value.{Value}
 use Rattle.desk_events.specs.declared.need.Need.TheVariants.{View}
 use Rattle.desk_events.specs.Configuration.{AnswersAfter, Configuration, HappenAll, Happening, Happens, HappensToDesk, IsWithout, desk, echoes, finishes, loses_answer, opened_among}
-use Rattle.desk_events.specs.Core.{Answer, Core, Row, awaits, holds, nothing, shown, shown_for}
+use Rattle.desk_events.specs.Core.{Answer, Core, Row, shown, shown_for}
 use Rattle.desk_events.specs.Entry.{Entry}
 use Rattle.desk_events.specs.Event.{CanHappen, Event, IsTrueAnswer, after_edit, after_event, cancels, collects, edits, issues, recalls}
 use Rattle.desk_events.specs.Law.{ShowsOnlyScratch, StaysRight}
@@ -50,8 +48,7 @@ true_more es e answer = by_value answer.number answer.value
     by_value : (n : ℕ) (o : Option Value) → IsTrueAnswer es (record { number = n; value = o })
         → IsTrueAnswer (es ++ e ∷ []) (record { number = n; value = o })
     by_value n None h = tt
-    by_value n (Some v) h =
-        record { entry = h.entry; there = get_left es (e ∷ []) n h.entry h.there; is = h.is }
+    by_value n (Some v) h = record { entry = h.entry; there = get_left es (e ∷ []) n h.entry h.there; is = h.is }
 
 all_more : (es : List Entry) (e : Entry) (answers : List Answer) → AllByRecursion (IsTrueAnswer es) answers
     → AllByRecursion (IsTrueAnswer (es ++ e ∷ [])) answers
@@ -148,14 +145,7 @@ stays_right revision c reached =
 
 shown_is : (p : Plan) (es : List Entry) (id : ℕ) (o : Option Bookmark) (row : Row) → bookmark_in p.bookmarks id ≡ o
     → Stands es p (View id) row → IsShown p id (shown_for row o)
-shown_is p es id None row is stands = is
-shown_is p es id (Some b) nothing is stands = subst (λ o. IsSome o) (sym is) refl
-shown_is p es id (Some b) (awaits n) is stands = subst (λ o. IsSome o) (sym is) refl
-shown_is p es id (Some b) (holds (pattern w)) is stands = subst (λ o. IsSome o) (sym is) refl
-shown_is p es id (Some b) (holds (text bytes)) is stands =
-    let one : Some (text (scratch p b)) ≡ Some (text bytes) = sym (ap (text_wanted p) is) ∙ stands in
-    let same : scratch p b ≡ bytes = cc in
-    (b, is, sym same)
+shown_is p es id o row is stands = grind (arith, text_wanted)
 
 pub shows_right : (c : Core) (id : ℕ) → IsRight c → IsShown c.plan id (shown c id)
 shows_right c id right =

@@ -1,6 +1,6 @@
 -- What an edit keeps of a document's rows is still wanted.
-use Rattle.std.proofs.Common.{◌≡◌, ℕ, ◌∙◌, true, false, not, ◌&&◌, sym, ap, subst, None, Option, Some, inl, inr}
-use Rattle.std.specs.Prelude.{◌==◌, List, [], ◌∷◌}
+use Rattle.std.proofs.Common.{◌≡◌, ℕ, ◌∙◌, true, false, not, ◌&&◌, sym, arith, ap, subst, None, Option, Some, inl, inr}
+use Rattle.std.specs.Prelude.{List, [], ◌∷◌}
 use Rattle.std.proofs.lemmas.Bool.{and_parts}
 use Rattle.worlds.specs.Lay.{lay}
 use Rattle.worlds.specs.World.{World}
@@ -13,11 +13,11 @@ use Rattle.schedule.specs.Plan.{Plan}
 use Rattle.schedule.specs.Scratch.{cells_at, scratch}
 use Rattle.schedule.specs.Sound.{AreMarked, IsPlaced, IsSound}
 use Rattle.schedule.proofs.Shared.Alike.{arrival-within}
-use Rattle.revision_jobs.specs.Value.{pattern, text}
+use Rattle.revision_jobs.specs.Value.{pattern}
 use Rattle.desk_events.specs.declared.mark.Mark.{Mark}
 use Rattle.desk_events.specs.declared.need.Need.{Need}
 use Rattle.desk_events.specs.declared.need.Need.TheVariants.{Step, View}
-use Rattle.desk_events.specs.Wanted.{bookmark_in, wanted, text_wanted}
+use Rattle.desk_events.specs.Wanted.{bookmark_in, wanted}
 use Rattle.desk_events.specs.Felt.{IsFelt, felt_from}
 use Rattle.desk_events.specs.Kept.{keeps_text, leaves_after, stays_mark, takes, keeps_arrival}
 use Rattle.desk_events.specs.Marks.{bookmark_mark, is_mark, is_start, mark_at}
@@ -25,7 +25,6 @@ use Rattle.desk_events.proofs.Shared.Bookmarks.{kept_in}
 use Rattle.desk_events.proofs.Leaves.{arrival_left, scratch_left, shown_left}
 use Rattle.desk_events.proofs.Shared.Marks.{bookmark_is_mark}
 use Rattle.desk_events.proofs.Shared.Gives.{Arrives}
-use Rattle.desk_events.proofs.Shared.Tests.{either_way}
 use Rattle.desk_events.proofs.Alike.{unfelt_alike}
 use Rattle.desk_events.proofs.Shared.Walk.{mark_within}
 
@@ -40,20 +39,13 @@ Keeps p asked felt (View id) = (b : Bookmark) × (bookmark_in p.bookmarks id ≡
 placed_in : (branches : List Branch) (bs : List Bookmark) (id : ℕ) (b : Bookmark) → AreMarked branches bs
     → bookmark_in bs id ≡ Some b → IsPlaced branches b.branch b.generation
 placed_in branches [] id b all is = absurd cc
-placed_in branches (c ∷ bs) id b all is =
-    either_way (c.id == id)
-    (λ hit. let one : Some c ≡ Some b = rw hit at is in let same : c ≡ b = cc in
-    subst (λ (x : Bookmark). IsPlaced branches x.branch x.generation) same all.0)
-    (λ miss. placed_in branches bs id b all.1 (rw miss at is))
+placed_in branches (c ∷ bs) id b all is = grind (arith, placed_in branches bs id b all.1)
 
 -- a bookmark whose text is the same in both documents
 text_same : (p : Plan) (asked : Asked) (felt : Option Mark) (id : ℕ) (b : Bookmark)
     → keeps_text (changed p asked).plan.branches felt asked b ≡ true → bookmark_in p.bookmarks id ≡ Some b
     → scratch p b ≡ scratch (changed p asked).plan b → wanted (changed p asked).plan (View id) ≡ wanted p (View id)
-text_same p asked felt id b keep is same =
-    ap (text_wanted (changed p asked).plan) (kept_in p asked felt id b keep is)
-    ∙ ap (λ t. Some (text t)) (sym same)
-    ∙ sym (ap (text_wanted p) is)
+text_same p asked felt id b keep is same = let kept = kept_in p asked felt id b keep is in grind arith
 
 -- up to where it is felt
 wants_left : (p : Plan) (asked : Asked) (need : Need) → IsSound p → refusal p asked ≡ None

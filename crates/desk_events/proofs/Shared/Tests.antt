@@ -28,20 +28,11 @@ true_le m n h = grind (arith, nat_tests)
 pub le_true : (m n : ℕ) → m ≤ n → nat_le m n ≡ true
 le_true m n h = grind (arith, nat_tests)
 
-pub le_false : (m n : ℕ) → n < m → nat_le m n ≡ false
-le_false m n h = grind (arith, nat_tests)
-
-pub false_le : (m n : ℕ) → nat_le m n ≡ false → n < m
-false_le m n h = grind (arith, nat_tests)
-
 pub eq_true : (m n : ℕ) → m ≡ n → (m == n) ≡ true
 eq_true m n h = grind (arith, nat_tests)
 
 pub eq_false : (m n : ℕ) → m ≢ n → (m == n) ≡ false
 eq_false m n h = grind (arith, nat_tests)
-
-pub lt_apart : (m n : ℕ) → nat_lt m n ≡ true → (m == n) ≡ false
-lt_apart m n h = grind (arith, nat_tests)
 
 pub true_eq : (m n : ℕ) → (m == n) ≡ true → m ≡ n
 true_eq m n h = grind (arith, nat_tests)

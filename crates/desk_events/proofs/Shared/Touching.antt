@@ -4,7 +4,6 @@ use Rattle.std.specs.Prelude.{◌==◌, min}
 use Rattle.std.proofs.lemmas.Bool.Decides.{nat_tests}
 use Rattle.std.specs.List.{AllByRecursion}
 use Rattle.std.specs.Option.{option_map}
-use Rattle.std.proofs.lemmas.Bool.{and_from, and_parts}
 use Rattle.std.proofs.lemmas.Grind.{flat_map-append}
 use Rattle.worlds.specs.declared.cell.CellSet.{CellSet}
 use Rattle.schedule.specs.declared.acts.Acts.{Acts}
@@ -22,7 +21,7 @@ use Rattle.schedule.specs.Sound.{IsSound}
 use Rattle.schedule.proofs.Shared.Acts.{acts-from}
 use Rattle.desk_events.specs.declared.touched.Touched.{Touched}
 use Rattle.desk_events.specs.Felt.{added, first_touched, moved, removed, touched_by}
-use Rattle.desk_events.proofs.Shared.Tests.{clash, either_way, eq_true, le_true, true_eq}
+use Rattle.desk_events.proofs.Shared.Tests.{either_way, true_eq}
 use Rattle.desk_events.proofs.Shared.Walk.{own_cells-other}
 
 -- two lists set the same cells but where what is touched acts, before or after; and where nothing
@@ -113,14 +112,9 @@ untouched p asked sound = refl
 before_first : (acts : Acts) (c k b g : ℕ) → k ≤ first_of acts → (b == c && nat_le k g) ≡ false
     → (c == b && acts_on acts g) ≡ false
 before_first acts c k b g early off =
-    either_way (c == b && acts_on acts g)
-    (λ hit.
-    let parts = and_parts (c == b) (acts_on acts g) hit in
-    let from = acts-from acts g parts.1 in
-    clash (b == c && nat_le k g)
-    (and_from (b == c) (nat_le k g) (eq_true b c (sym (true_eq c b parts.0))) (le_true k g (omega (arith, early, from))))
-    off)
-    (λ miss. miss)
+    either_way (acts_on acts g)
+    (λ acting. let from = acts-from acts g acting in grind (arith, nat_tests))
+    (λ none. grind arith)
 
 pub untouched_elsewhere : (is others : List Intervention) (t : Touched) → SameUntouched is others (Some t)
     → SameElsewhere is others (first_touched t).branch (first_touched t).generation

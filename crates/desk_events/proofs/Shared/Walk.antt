@@ -1,14 +1,15 @@
 -- Steps of the way from the start to a mark.
-use Rattle.std.proofs.Common.{◌≡◌, ℕ, suc, ◌+◌, ◌-◌, ◌<◌, ◌≤◌, nat_le, true, false, ◌&&◌, ◌||◌, List, [], ◌∷◌, ◌++◌, refl, sym, ap, ap₂, ◌∙◌, subst, arith, inl, inr, Option, Some}
+use Rattle.std.proofs.Common.{◌≡◌, ℕ, suc, ◌+◌, ◌-◌, ◌<◌, ◌≤◌, nat_le, true, false, ◌&&◌, ◌||◌, List, [], ◌∷◌, refl, sym, ap, ◌∙◌, subst, arith, inl, inr, Option, Some}
+use Rattle.std.proofs.lemmas.Bool.Decides.{nat_tests}
 use Rattle.std.specs.Prelude.{◌==◌}
 use Rattle.std.specs.List.{list_any}
 use Rattle.std.specs.Option.{option_map_or}
-use Rattle.std.proofs.lemmas.Bool.{and_parts, cond-false, or_cases, or_parts}
+use Rattle.std.proofs.lemmas.Bool.{and_parts, cond-false, or_parts}
 use Rattle.worlds.specs.World.{World}
 use Rattle.worlds.specs.Lay.{lay}
 use Rattle.worlds.specs.Step.{step}
 use Rattle.worlds.specs.Iterate.{iterate}
-use Rattle.rule_tree.specs.Rule.{next_of}
+use Rattle.rule_tree.specs.Rule.{next_of, states_of}
 use Rattle.schedule.specs.declared.branch.Branch.{Branch}
 use Rattle.schedule.specs.declared.document.Bookmark.{Bookmark}
 use Rattle.schedule.specs.declared.document.Intervention.{Intervention}
@@ -16,14 +17,14 @@ use Rattle.schedule.specs.Branches.{element_at, fork_of, reach}
 use Rattle.schedule.specs.Ids.{branch_id}
 use Rattle.schedule.specs.Plan.{Plan}
 use Rattle.schedule.specs.Scratch.{acts_at, own_cells, cells_at, arrival}
-use Rattle.schedule.specs.Sound.{IsSound}
+use Rattle.schedule.specs.Sound.{IsAllowed, IsSound}
 use Rattle.schedule.proofs.Shared.Reach.{reach-greatest}
 use Rattle.schedule.proofs.Shared.Branches.{forks_rise}
 use Rattle.schedule.proofs.Shared.Lines.{arrival-undisturbed}
 use Rattle.desk_events.specs.declared.mark.Mark.{Mark}
 use Rattle.desk_events.specs.Marks.{ComesBefore, acts_within, forks_at, is_mark, is_start, mark_at, stands_at}
-use Rattle.desk_events.proofs.Shared.Listed.{all_both, any_so, each_found}
-use Rattle.desk_events.proofs.Shared.Marks.{mark_placed}
+use Rattle.desk_events.proofs.Shared.Listed.{all_both, each_found}
+use Rattle.desk_events.proofs.Shared.Marks.{mark_placed, marks_so}
 use Rattle.desk_events.proofs.Shared.Tests.{le_true, true_eq, true_le}
 
 pub own_cells-other : (i : Intervention) (b g : ℕ) → acts_at i b g ≡ false → own_cells i b g ≡ []
@@ -60,24 +61,18 @@ before_late p n m sound (inr precedes) = (mark_placed p n sound precedes.is).fro
 fork_within : (p : Plan) (x : Branch) (m : Mark) → forks_at x m ≡ true → (element_at branch_id p.branches x.id ≡ Some x)
     × ((x.parent == m.branch) ≡ true → x.fork ≤ reach p m.branch) → m.generation ≤ reach p m.branch
 fork_within p x m at k =
-    let parts = and_parts (x.id == m.branch || x.parent == m.branch) (x.fork == m.generation) at in
-    let here : x.fork ≡ m.generation = true_eq x.fork m.generation parts.1 in
-    elim (or_cases (x.id == m.branch) (x.parent == m.branch) parts.0) [
-      | inl own ↦
-          let from = (reach-greatest p m.branch).from_fork in
-          let same : fork_of p.branches m.branch ≡ x.fork = ap (fork_of p.branches) (sym (true_eq x.id m.branch own))
-          ∙ ap (λ (o : Option Branch). option_map_or (λ (y : Branch). y.fork) o 0) k.0 in
-          omega (arith, from, same, here)
-      | inr parent ↦ let far = k.1 parent in omega (arith, far, here)
-    ]
+    let from = (reach-greatest p m.branch).from_fork in
+    let same : fork_of p.branches x.id ≡ x.fork = ap (λ (o : Option Branch). option_map_or (λ (y : Branch). y.fork) o 0) k.0 in
+    by_ids p.branches x m at from same k.1
+  where
+    by_ids : (branches : List Branch) (x : Branch) (m : Mark) → forks_at x m ≡ true → fork_of branches m.branch ≤ reach p m.branch
+        → fork_of branches x.id ≡ x.fork → ((x.parent == m.branch) ≡ true → x.fork ≤ reach p m.branch)
+        → m.generation ≤ reach p m.branch
+    by_ids branches x m at from same far = grind (arith, nat_tests)
 
 stands_within : (p : Plan) (b : Bookmark) (m : Mark) → stands_at b m ≡ true
     → ((b.branch == m.branch) ≡ true → b.generation ≤ reach p m.branch) → m.generation ≤ reach p m.branch
-stands_within p b m at k =
-    let parts = and_parts (b.branch == m.branch) (b.generation == m.generation) at in
-    let here : b.generation ≡ m.generation = true_eq b.generation m.generation parts.1 in
-    let far = k parts.0 in
-    omega (arith, far, here)
+stands_within p b m at k = grind (arith, nat_tests)
 
 -- a branch that is found by its id, and that reaches where it leaves another
 abbrev FoundWithin : Plan → Mark → Branch → Type 0
@@ -87,36 +82,23 @@ FoundWithin p m x = (element_at branch_id p.branches x.id ≡ Some x)
 pub mark_within : (p : Plan) (m : Mark) → IsSound p → is_mark p m ≡ true → m.generation ≤ reach p m.branch
 mark_within p m sound there =
     let far = reach-greatest p m.branch in
-    let acting = list_any (λ (i : Intervention). acts_at i m.branch m.generation) p.interventions in
-    elim (or_cases (is_start m || list_any (λ (x : Branch). forks_at x m) p.branches)
-    (list_any (λ (b : Bookmark). stands_at b m) p.bookmarks || acts_within p m) there) [
-      | inl first ↦ elim (or_cases (is_start m) (list_any (λ (x : Branch). forks_at x m) p.branches) first) [
-        | inl start ↦ let low : m.generation ≡ 0 =
-            true_eq m.generation 0 (and_parts (m.branch == 0) (m.generation == 0) start).1 in omega (arith, low)
-        | inr forks ↦ any_so (λ (x : Branch). forks_at x m) (FoundWithin p m) p.branches
-            (λ x k at. fork_within p x m at k)
-            (all_both (λ (x : Branch). element_at branch_id p.branches x.id ≡ Some x)
-            (λ (x : Branch). (x.parent == m.branch) ≡ true → x.fork ≤ reach p m.branch) (FoundWithin p m) p.branches
-            (λ x found leaves. (found, leaves)) (each_found branch_id p.branches sound.branches_sound.rise) far.forks)
-            forks
-      ]
-      | inr shows ↦ elim (or_cases (list_any (λ (b : Bookmark). stands_at b m) p.bookmarks) (acts_within p m) shows) [
-        | inl stands ↦ any_so (λ (b : Bookmark). stands_at b m)
-            (λ (b : Bookmark). (b.branch == m.branch) ≡ true → b.generation ≤ reach p m.branch) p.bookmarks
-            (λ b k at. stands_within p b m at k) far.bookmarks stands
-        | inr acts ↦ true_le m.generation (reach p m.branch)
-            (and_parts (nat_le m.generation (reach p m.branch)) acting acts).0
-      ]
-    ]
+    marks_so p m (FoundWithin p m) (λ b. (b.branch == m.branch) ≡ true → b.generation ≤ reach p m.branch)
+    (IsAllowed (states_of p.rule))
+    (all_both (λ (x : Branch). element_at branch_id p.branches x.id ≡ Some x)
+    (λ (x : Branch). (x.parent == m.branch) ≡ true → x.fork ≤ reach p m.branch) (FoundWithin p m) p.branches
+    (λ x found leaves. (found, leaves)) (each_found branch_id p.branches sound.branches_sound.rise) far.forks)
+    far.bookmarks sound.interventions_allowed
+    (λ start. let low : m.generation ≡ 0 =
+    true_eq m.generation 0 (and_parts (m.branch == 0) (m.generation == 0) start).1 in omega (arith, low))
+    (λ x k at. fork_within p x m at k) (λ b k at. stands_within p b m at k)
+    (λ i allowed near at. true_le m.generation (reach p m.branch) near) there
 
 -- nothing is laid where no mark is
 
 none_laid : (is : List Intervention) (b g : ℕ) → list_any (λ (i : Intervention). acts_at i b g) is ≡ false
     → cells_at is b g ≡ []
 none_laid [] b g none = refl
-none_laid (i ∷ is) b g none =
-    let parts = or_parts (acts_at i b g) (list_any (λ (j : Intervention). acts_at j b g) is) none in
-    ap₂ (λ own more. own ++ more) (own_cells-other i b g parts.0) (none_laid is b g parts.1)
+none_laid (i ∷ is) b g none = grind (arith, none_laid is b g)
 
 pub quiet_at : (p : Plan) (b g : ℕ) → g ≤ reach p b → is_mark p (mark_at b g) ≡ false
     → cells_at p.interventions b g ≡ []
