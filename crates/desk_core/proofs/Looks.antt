@@ -15,8 +15,7 @@ of_plan_too plan (e ∷ es) d all is = (all.0, of_plan_too plan es d all.1 is)
 module _ {O : Type 0} (sees : O → BookState → O → Type 0) where
   pub looked_at : (seen : Bool) (old new : O) (d : BookState) → (seen ≡ true → sees old d new) → (seen ≡ false → new ≡ old)
       → LooksAt sees old d new
-  looked_at true old new d was wasn = inl (was refl)
-  looked_at false old new d was wasn = inr (wasn refl)
+  looked_at seen old new d was wasn = grind arith
 
   looks_too : (ds : List BookState) (d : BookState) (a b c : O) → LooksAtEach sees a ds b → LooksAt sees b d c
       → LooksAtEach sees a (ds ++ d ∷ []) c

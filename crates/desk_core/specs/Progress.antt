@@ -11,10 +11,14 @@ use Rattle.revision_jobs.specs.declared.post.Received.TheVariants.{Answer}
 use Rattle.desk_events.specs.declared.need.Need.{Need}
 use Rattle.dependency_book.specs.Jobs.{SameBook, SameDocument, cancelled}
 use Rattle.dependency_book.specs.BookState.{BookState, given_of, row_of, expected, pending_of, wanting_of, NothingOut}
+use Rattle.desk_core.specs.declared.cause.Cause.{Cause}
+use Rattle.desk_core.specs.declared.issue.IssueFault.{IssueFault}
 use Rattle.desk_core.specs.declared.progress.Progress.{Progress}
 use Rattle.desk_core.specs.declared.unsent.Unsent.{Unsent}
 use Rattle.desk_core.specs.declared.unsent.Unsent.TheVariants.{Nothing, Ready, Waiting}
-use Rattle.desk_core.specs.Settling.{GivesAtMost, HoldsAllOut, KeepsKnown, Serves, TellsCause}
+use Rattle.desk_core.specs.Feed.{Feeds}
+use Rattle.desk_core.specs.Polling.{Collects, IsCauseOf}
+use Rattle.desk_core.specs.Settling.{GivesAtMost, HoldsAllOut, KeepsKnown, Serves, ServesOn, TellsCause}
 
 -- the job that isn't sent yet, if there is one
 abbrev pub job_in : Unsent → Option Job
@@ -67,6 +71,10 @@ pub record KeepsJobs (first : BookState) (begun : PostView) (d : BookState) (pos
       → IsAccounted first post.floor unsent need job
   pub at_hand : HoldsAllOut first begun → IsAtHand unsent post.held d
 
+-- the progress with nothing left to send, and with a cause, if one was met
+abbrev pub at_rest : Option Cause → Progress
+at_rest cause = record { unsent = Nothing; cause = cause }
+
 -- where a settling is: what the desk knows, the post, and the progress
 pub record Stage : Type 0 where
   pub desk : BookState
@@ -92,6 +100,24 @@ pub record HasCome (first : BookState) (begun : PostView) (s : Stage) : Type 0 w
 -- the post fits the desk, and the job that isn't sent yet
 abbrev pub IsFit : Stage → Type 0
 IsFit s = Fits s.desk s.post (job_in s.progress.unsent)
+
+-- whatever settling came to the first stage comes to the second
+abbrev pub Comes : Stage → Stage → Type 0
+Comes s t = (first : BookState) (begun : PostView) → HasCome first begun s → HasCome first begun t
+
+-- so many jobs were taken, the post serves the desk still, and whatever came before goes on with the
+-- refusal that ended the feeding as its cause, if one did
+pub record FeedsOn (p q : PostView) (old new : BookState) (taken : ℕ) (refused : Option IssueFault)
+    : Type 0 where
+  pub feeds : Feeds p q old new taken refused
+  pub serves : ServesOn p q old new
+  pub comes : (told : Option Cause) → IsCauseOf refused told
+      → Comes (stage old p (at_rest None)) (stage new q (at_rest told))
+
+-- answers were collected, by which a settling has come so far
+pub record CollectsOn (p q : PostView) (old new : BookState) (cause : Option Cause) : Type 0 where
+  pub collects : Collects p q old new cause
+  pub comes : HasCome old p (stage new q (at_rest cause))
 
 -- whatever settling came to the first stage comes to the second, the post fits still, a cause that
 -- was met stays that very one, and at most so many numbers were given

@@ -1,5 +1,6 @@
 //! Feeding a post with jobs.
-ghost use Rattle.desk_core.specs.Feed.{Feeds, FeedsAll};
+ghost use Rattle.desk_core.specs.Feed.{FeedsAll};
+ghost use Rattle.desk_core.specs.Progress.{FeedsOn};
 ghost use Rattle.desk_core.specs.Settling.{Serves, ServesOn};
 
 use crate::desk::Desk;
@@ -29,9 +30,8 @@ pub fn feed<P: Post>(rt: &impl Wait, desk: &mut Desk<'_>, post: &mut P) -> u32
 /// Feeds the post as `feed` does, and tells too why no more jobs could be issued.
 pub(crate) fn feed_on<P: Post>(rt: &impl Wait, desk: &mut Desk<'_>, post: &mut P) -> Fed
     requires { Serves desk.old (P.view post.old) }
-    ensures feeds { Feeds (P.view post.old) (P.view post.new) desk.old desk.new
+    ensures { FeedsOn (P.view post.old) (P.view post.new) desk.old desk.new
         result.taken result.refused }
-    ensures post { ServesOn (P.view post.old) (P.view post.new) desk.old desk.new }
 {
     let mut taken = 0;
     loop {

@@ -1,5 +1,6 @@
 //! Polling a post: what has come is collected, and what is needed next is sent.
-ghost use Rattle.desk_core.specs.Polling.{Collects, IsCauseOf, Polls};
+ghost use Rattle.desk_core.specs.Polling.{IsCauseOf, Polls};
+ghost use Rattle.desk_core.specs.Progress.{CollectsOn};
 ghost use Rattle.desk_core.specs.Settling.{Keeps, Serves, ServesOn, TellsCause};
 
 use crate::cause::Cause;
@@ -66,7 +67,7 @@ fn cause_of(refused: Option<IssueFault>) -> Option<Cause>
 // Collects the answers that have come, and gives the first cause that one of them is.
 fn collect_all<P: Post>(desk: &mut Desk<'_>, post: &mut P) -> Option<Cause>
     requires { Serves desk.old (P.view post.old) }
-    ensures { Collects (P.view post.old) (P.view post.new) desk.old desk.new result }
+    ensures { CollectsOn (P.view post.old) (P.view post.new) desk.old desk.new result }
 {
     let mut progress = Progress::begun();
     for _ in 0..MOST_ANSWERS {

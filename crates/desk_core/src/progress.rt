@@ -66,8 +66,8 @@ impl Progress {
         progress
     }
 
-    // A turn: one send, or one receive where there is nothing to send or the post had no room. The
-    // settling ends where nothing is left to send and nothing is out.
+    // A turn: what is needed next is issued, and then there is one send or one receive. The settling
+    // ends where nothing is left to send and nothing is out.
     fn turn<P: Post, O: Onlooker>(
         &mut self,
         rt: &impl Wait,
@@ -86,6 +86,28 @@ impl Progress {
             onlooker.old onlooker.new }
     {
         self.issue(rt, desk);
+        self.exchange(desk, post, onlooker)
+    }
+
+    // Sends the job that isn't sent yet, or takes an answer where there is none or the post had no
+    // room for it.
+    fn exchange<P: Post, O: Onlooker>(
+        &mut self,
+        desk: &mut Desk<'_>,
+        post: &mut P,
+        onlooker: &mut O,
+    ) -> ControlFlow<()>
+        requires fits { Fits desk.old (P.view post.old) (job_in self.old.unsent) }
+        requires sees { SeesAll desk.old self.old }
+        ensures goes { GoesOn 0 (stage desk.old (P.view post.old) self.old)
+            (stage desk.new (P.view post.new) self.new) }
+        ensures asks { Asks (stage desk.old (P.view post.old) self.old)
+            (stage desk.new (P.view post.new) self.new) result }
+        ensures nears { Advances (stage desk.old (P.view post.old) self.old)
+            (stage desk.new (P.view post.new) self.new) result }
+        ensures looked { LooksIfAnswered O.sees (P.view post.old) (P.view post.new) desk.new
+            onlooker.old onlooker.new }
+    {
         match mem::replace(&mut self.unsent, Unsent::Nothing) {
             Unsent::Ready(job) => self.send(desk, post, job),
             Unsent::Waiting(job) => {

@@ -1,6 +1,6 @@
 -- What explains a cause explains it still, while jobs come and go.
-use Rattle.std.proofs.Common.{◌≡◌, ℕ, ◌+◌, ◌<◌, ◌≤◌, ◌∙◌, List, [], ◌∷◌, ◌++◌, length, sym, subst, inl, inr, arith, append-nil, Option, None, Some, Err}
-use Rattle.std.specs.Prelude.{IfSome, unwrap_or}
+use Rattle.std.proofs.Common.{◌≡◌, ℕ, ◌+◌, ◌<◌, ◌≤◌, ◌∙◌, List, [], ◌∷◌, ◌++◌, length, sym, subst, inl, inr, arith, append-nil, Option, Some, Err}
+use Rattle.std.specs.Prelude.{IfSome}
 use Rattle.std.specs.List.{Any}
 use Rattle.std.proofs.Math.ListN.{get_or-append}
 use Rattle.std.proofs.lemmas.Grind.{common_steps}
@@ -15,15 +15,11 @@ use Rattle.revision_jobs.specs.declared.entries.Entries.{Entries}
 use Rattle.dependency_book.specs.Jobs.{SameBook}
 use Rattle.dependency_book.specs.BookState.{BookState, given_of}
 use Rattle.desk_core.specs.declared.cause.Cause.{Cause}
-use Rattle.desk_core.specs.declared.cause.Cause.TheVariants.{NoMemory, NoRoom, Stopped as WasStopped, NumbersSpent}
-use Rattle.desk_core.specs.declared.collect.Collected.TheVariants.{Released}
 use Rattle.desk_core.specs.declared.issue.IssueFault.{IssueFault}
 use Rattle.desk_core.specs.declared.issue.IssueFault.TheVariants as issue
 use Rattle.desk_core.specs.Cause.{cause_of_answer, cause_of_issue}
-use Rattle.desk_core.specs.Collected.{IsCollected}
 use Rattle.desk_core.specs.Issued.{RefusesIssue}
 use Rattle.desk_core.specs.Settling.{Explains, RanOut, SawStop}
-use Rattle.desk_core.proofs.Shared.Given.{same_given}
 
 -- one of more answers
 
@@ -55,21 +51,14 @@ FoundNone limit answer = (answer.outcome ≡ Err EvolveFault.NoRoom) × HasNoRoo
 pub explains-kept : (limit : ℕ) (first old new : BookState) (answers more : List JobResult) (cause : Option Cause)
     → SameBook old new → IfSome cause (Explains limit first old answers)
     → IfSome cause (Explains limit first new (answers ++ more))
-explains-kept limit first old new answers more None same h = tt
-explains-kept limit first old new answers more (Some NoMemory) same (inl gave) =
-    inl (any-before (Gave EvolveFault.NoMemory) answers more gave)
-explains-kept limit first old new answers more (Some NoMemory) same (inr ran) = inr (
-  subst (λ n. first.refused < n) (sym same.refused) ran.0,
-  subst (λ n. n < 16777216) (sym (same_given same)) ran.1,
-)
-explains-kept limit first old new answers more (Some NoRoom) same h = any-before (FoundNone limit) answers more h
-explains-kept limit first old new answers more (Some WasStopped) same h =
-    any-before (Gave EvolveFault.Stopped) answers more h
-explains-kept limit first old new answers more (Some NumbersSpent) same h =
-    subst (λ n. 16777216 ≤ n) (sym (same_given same)) h
+explains-kept limit first old new answers more cause same h =
+    let memory = any-before (Gave EvolveFault.NoMemory) answers more in
+    let room = any-before (FoundNone limit) answers more in
+    let stopped = any-before (Gave EvolveFault.Stopped) answers more in
+    grind (arith, memory, room, stopped)
 
 -- why a job gave up fits: for want of room only where its entry has none at the limit
-explains-released : (limit : ℕ) (table : Entries) (first new : BookState) (answers : List JobResult)
+pub explains-released : (limit : ℕ) (table : Entries) (first new : BookState) (answers : List JobResult)
     (answer : JobResult) (fault : EvolveFault) → IsOwnAnswer table limit answer → answer.outcome ≡ Err fault
     → Explains limit first new (answers ++ answer ∷ []) (cause_of_answer fault)
 explains-released limit table first new answers answer EvolveFault.NoMemory own gave =
@@ -78,25 +67,6 @@ explains-released limit table first new answers answer EvolveFault.Stopped own g
     any-last (Gave EvolveFault.Stopped) answers answer gave
 explains-released limit table first new answers answer EvolveFault.NoRoom own gave =
     any-last (FoundNone limit) answers answer (gave, own.room gave)
-
--- the first cause is told
-explains-first : (limit : ℕ) (first d : BookState) (answers : List JobResult) (before : Option Cause) (cause : Cause)
-    → Explains limit first d answers cause → IfSome before (Explains limit first d answers)
-    → Explains limit first d answers (unwrap_or before cause)
-explains-first limit first d answers None cause h was = h
-explains-first limit first d answers (Some c) cause h was = was
-
-pub explains-collected : (limit : ℕ) {table : Entries} (first old new : BookState) (answers : List JobResult)
-    (answer : JobResult) (before : Option Cause) (fault : EvolveFault) (told cause : Cause)
-    → IsOwnAnswer table limit answer → IsCollected old new answer (Released fault) → told ≡ cause_of_answer fault
-    → cause ≡ unwrap_or before told → IfSome before (Explains limit first new (answers ++ answer ∷ []))
-    → Explains limit first new (answers ++ answer ∷ []) cause
-explains-collected limit {table} first old new answers answer before fault told cause own h is told_first so =
-    subst (Explains limit first new (answers ++ answer ∷ [])) (sym told_first)
-    (explains-first limit first new (answers ++ answer ∷ []) before told
-    (subst (Explains limit first new (answers ++ answer ∷ [])) (sym is)
-    (explains-released limit table first new answers answer fault own h.gave_up))
-    so)
 
 -- so does an issue that was refused
 pub explains-refused : (limit : ℕ) (first old new : BookState) (answers : List JobResult) (fault : IssueFault)
@@ -108,38 +78,17 @@ explains-refused limit first old new answers issue.NoMemory before h =
 
 -- and over a prompt post a stop only where it saw a flag raised
 
-saw-released : (begun p q : PostView) (answer : JobResult) (fault : EvolveFault) → p.is_prompt ≡ begun.is_prompt
-    → begun.stops ≤ p.stops → Receives p q (Answer answer) → answer.outcome ≡ Err fault
-    → SawStop begun q (cause_of_answer fault)
-saw-released begun p q answer EvolveFault.NoMemory kind before receives gave = tt
-saw-released begun p q answer EvolveFault.NoRoom kind before receives gave = tt
+pub saw-released : (begun p q : PostView) (answer : JobResult) (fault : EvolveFault)
+    → p.is_prompt ≡ begun.is_prompt → begun.stops ≤ p.stops → Receives p q (Answer answer)
+    → answer.outcome ≡ Err fault → SawStop begun q (cause_of_answer fault)
 saw-released begun p q answer EvolveFault.Stopped kind before receives gave = λ prompt.
     let once = (receives.stopped (kind ∙ prompt)).stopped gave in omega (arith, before, once)
-
-saw-first : (begun q : PostView) (before : Option Cause) (cause : Cause) → SawStop begun q cause
-    → IfSome before (SawStop begun q) → SawStop begun q (unwrap_or before cause)
-saw-first begun q None cause h was = h
-saw-first begun q (Some c) cause h was = was
-
-pub saw-collected : (begun p q : PostView) (old new : BookState) (answer : JobResult) (before : Option Cause)
-    (fault : EvolveFault) (told cause : Cause) → p.is_prompt ≡ begun.is_prompt → begun.stops ≤ p.stops
-    → Receives p q (Answer answer) → IsCollected old new answer (Released fault) → told ≡ cause_of_answer fault
-    → cause ≡ unwrap_or before told → IfSome before (SawStop begun q) → SawStop begun q cause
-saw-collected begun p q old new answer before fault told cause kind stops receives h is told_first so =
-    subst (SawStop begun q) (sym told_first) (saw-first begun q before told
-    (subst (SawStop begun q) (sym is) (saw-released begun p q answer fault kind stops receives h.gave_up)) so)
+saw-released begun p q answer fault kind before receives gave = tt
 
 -- what was seen raised was so however many more are
-saw-more : (begun p q : PostView) (cause : Cause) → p.stops ≤ q.stops → SawStop begun p cause → SawStop begun q cause
-saw-more begun p q NoMemory more h = tt
-saw-more begun p q NoRoom more h = tt
-saw-more begun p q WasStopped more h = λ prompt. let was = h prompt in omega (arith, more, was)
-saw-more begun p q NumbersSpent more h = tt
-
 pub saw-on : (begun p q : PostView) (cause : Option Cause) → p.stops ≤ q.stops → IfSome cause (SawStop begun p)
     → IfSome cause (SawStop begun q)
-saw-on begun p q None more h = tt
-saw-on begun p q (Some cause) more h = saw-more begun p q cause more h
+saw-on begun p q cause more h = grind arith
 
 -- the refusal of an issue is no stop
 pub saw-refused : (p q : PostView) (fault : IssueFault) → SawStop p q (cause_of_issue fault)

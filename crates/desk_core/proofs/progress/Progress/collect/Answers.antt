@@ -1,8 +1,17 @@
-use Rattle.std.proofs.Common.{refl, ap, subst, Some}
+use Rattle.std.proofs.Common.{◌≡◌, arith, refl, ap, subst, Option, Some}
+use Rattle.std.specs.Prelude.{IfSome, unwrap_or}
+use Rattle.desk_core.specs.declared.cause.Cause.{Cause}
 use Rattle.desk_core.specs.declared.progress.Progress.{Progress}
 use Rattle.desk_core.specs.Progress.{CancelsAny, job_in}
-use Rattle.desk_core.proofs.Steps.{GoesOn-answered, GoesOn-cancelled, GoesOn-on, GoesOn-released, wanting-collected}
+use Rattle.desk_core.proofs.Steps.{GoesOn-answered, GoesOn-cancelled, GoesOn-on, tells-answered, tells-released, wanting-collected}
 use Rattle.desk_core.proofs.progress.Progress.collect.Goals as goal
+
+first_caused : (before : Option Cause) (told cause : Cause) → cause ≡ unwrap_or before told
+    → IfSome before (λ first. Some cause ≡ Some first)
+first_caused before told cause is = grind arith
+
+same_cause : (cause : Option Cause) → IfSome cause (λ first. cause ≡ Some first)
+same_cause cause = grind arith
 
 pub returns-in-Released-clause-goes : goal.returns-in-Released-clause-goes
 returns-in-Released-clause-goes c = λ p q receives.
@@ -14,16 +23,19 @@ returns-in-Released-clause-goes c = λ p q receives.
     let cancels : CancelsAny (job_in mid.unsent) collected c.cancel.new.desk =
     subst (λ u. CancelsAny (job_in u) collected c.cancel.new.desk) c.replace.ensures.value c.cancel.ensures in
     GoesOn-on _ _ _
-    (GoesOn-released old collected p q before mid c.args.answer c.in-Released.fault c.of_answer.result
-    c.unwrap_or.result receives c.collect.ensures.fills c.collect.ensures.book c.in-Released.ensures.collected
-    c.of_answer.ensures c.unwrap_or.ensures refl refl)
+    (GoesOn-answered old collected p q before mid c.args.answer receives c.collect.ensures.fills
+    c.collect.ensures.book refl (first_caused before.cause c.of_answer.result c.unwrap_or.result c.unwrap_or.ensures)
+    (tells-released old collected p q before mid c.args.answer c.in-Released.fault c.of_answer.result receives
+    c.collect.ensures.book c.in-Released.ensures.collected.gave_up c.of_answer.ensures
+    (ap (λ cause. Some cause) c.unwrap_or.ensures)))
     (GoesOn-cancelled collected c.cancel.new.desk q mid after cancels (ap job_in c.replace.ensures.after) refl)
 
 pub returns-in_default : goal.returns-in_default
 returns-in_default c = record {
   goes = λ p q receives.
-      GoesOn-answered c.args.desk.now c.collect.new.self p q c.args.self.now c.args.answer receives
-      c.collect.ensures.fills c.collect.ensures.book;
+      GoesOn-answered c.args.desk.now c.collect.new.self p q c.args.self.now c.args.self.now c.args.answer receives
+      c.collect.ensures.fills c.collect.ensures.book refl (same_cause c.args.self.now.cause)
+      (tells-answered c.args.desk.now c.collect.new.self p q c.args.self.now c.args.answer receives c.collect.ensures.book);
   same = λ none. refl;
   wanting = λ none.
       wanting-collected c.args.desk.now c.collect.new.self c.args.answer c.collect.result c.in_default.not-Released

@@ -5,8 +5,7 @@ use Rattle.desk_core.proofs.Steps.{GoesOn-idle, Idles-ended, Idles-nothing}
 use Rattle.desk_core.proofs.progress.Progress.receive.Goals as goal
 
 pub returns-in-Answer-clause-goes : goal.returns-in-Answer-clause-goes
-returns-in-Answer-clause-goes g c =
-    c.collect.ensures.goes (g.P.Post.view c.args.post.now) (g.P.Post.view c.receive.new.self) c.in-Answer.ensures
+returns-in-Answer-clause-goes g c = c.collect.ensures.goes _ _ c.in-Answer.ensures
 
 pub returns-in-Answer-clause-frees : goal.returns-in-Answer-clause-frees
 returns-in-Answer-clause-frees g c = λ prompt. record {
@@ -17,16 +16,10 @@ returns-in-Answer-clause-frees g c = λ prompt. record {
 }
 
 pub returns-in-Nothing-clause-goes : goal.returns-in-Nothing-clause-goes
-returns-in-Nothing-clause-goes g c =
-    let p = g.P.Post.view c.args.post.now in
-    let q = g.P.Post.view c.receive.new.self in
-    GoesOn-idle c.args.desk.now p q c.args.self.now (Idles-nothing p q c.in-Nothing.ensures)
+returns-in-Nothing-clause-goes g c = GoesOn-idle _ _ _ _ _ (Idles-nothing _ _ c.in-Nothing.ensures) refl refl
 
 pub returns-in-Ended-clause-goes : goal.returns-in-Ended-clause-goes
-returns-in-Ended-clause-goes g c =
-    let p = g.P.Post.view c.args.post.now in
-    let q = g.P.Post.view c.receive.new.self in
-    GoesOn-idle c.args.desk.now p q c.args.self.now (Idles-ended p q c.in-Ended.ensures)
+returns-in-Ended-clause-goes g c = GoesOn-idle _ _ _ _ _ (Idles-ended _ _ c.in-Ended.ensures) refl refl
 
 pub returns-in-Answer-clause-looked : goal.returns-in-Answer-clause-looked
 returns-in-Answer-clause-looked g c =

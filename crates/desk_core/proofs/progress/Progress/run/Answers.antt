@@ -1,7 +1,7 @@
 use Rattle.std.proofs.Common.{arith, inl, inr}
 use Rattle.desk_core.specs.Progress.{stage}
 use Rattle.desk_core.proofs.Looks.{looked_at, looks_first, looks_then}
-use Rattle.desk_core.proofs.Steps.{HasCome-first, gives_at_first, gives_on, none_before}
+use Rattle.desk_core.proofs.Steps.{HasCome-first, none_before}
 use Rattle.desk_core.proofs.Turns.{asked-on, done-at_end, ended-at_end, turns-at_first, turns-spent, turns-on}
 use Rattle.desk_core.proofs.progress.Progress.run.Goals as goal
 
@@ -11,7 +11,7 @@ loop-init g c =
     record {
       comes = HasCome-first c.args.desk.now (g.P.Post.view c.args.post.now) c.begun-progress.result begun.0 begun.1
           c.requires;
-      given = gives_at_first c.args.desk.now;
+      given = omega arith;
       asked = omega arith;
       turns = λ all enough none. turns-at_first c.args.desk.now c.begun-progress.result.unsent
           (g.P.Post.view c.args.post.now).held c.args.turns begun.0 enough;
@@ -46,8 +46,7 @@ loop-preserved g c =
     let t = stage c.turn.new.desk (g.P.Post.view c.turn.new.post) c.turn.new.self in
     record {
       comes = c.turn.ensures.goes.comes _ _ c.loop.invariant.comes;
-      given = gives_on c.loop.counter c.args.desk.now c.loop.desk c.turn.new.desk c.loop.invariant.given
-          c.turn.ensures.goes.given;
+      given = let was = c.loop.invariant.given in let more = c.turn.ensures.goes.given in omega (arith, was, more);
       asked = asked-on s t c.turn.result (g.P.Post.view c.args.post.now).asked c.loop.counter c.in-Continue.is
           c.turn.ensures.asks c.loop.invariant.asked;
       turns = λ all enough none. turns-on s t c.turn.result c.loop.counter c.args.turns c.in-Continue.is
