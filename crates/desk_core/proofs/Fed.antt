@@ -43,17 +43,7 @@ pub record HasFed (first d : BookState) (p q : PostView) (taken : ℕ) : Type 0 
   pub comes : Comes (stage first p (at_rest None)) (stage d q (at_rest None))
 
 pub HasFed-first : (d : BookState) (post : PostView) → Serves d post → HasFed d d post post 0
-HasFed-first d post serves = record {
-  stays = λ need. inr refl;
-  floor = refl;
-  given = omega arith;
-  asked = omega arith;
-  silent = refl;
-  refused = refl;
-  began = serves;
-  serves = serves;
-  comes = λ start begun come. come;
-}
+HasFed-first d post serves = grind arith
 
 some_more : (before first taken : ℕ) → floor_after before first (taken + 1) ≡ first + (taken + 1)
 some_more before first taken = grind (arith, nat_tests)

@@ -1,5 +1,5 @@
 -- One look at a settling after another.
-use Rattle.std.proofs.Common.{◌≡◌, inl, inr, ◌+◌, List, [], ◌∷◌, ◌++◌, length, Bool, true, false, refl, sym, subst, ap, arith}
+use Rattle.std.proofs.Common.{◌≡◌, inl, inr, ◌+◌, List, [], ◌∷◌, ◌++◌, length, Bool, true, false, refl, sym, subst, arith}
 use Rattle.std.proofs.lemmas.List.{length-append}
 use Rattle.revision_jobs.specs.Posted.{PostView}
 use Rattle.schedule.specs.Plan.{Plan}
@@ -50,11 +50,3 @@ module _ {O : Type 0} (sees : O → BookState → O → Type 0) where
         answers = omega (arith, same, before);
         looks = subst (λ v. LooksAtEach sees a (first ∷ on.later) v) (sym none.1) on.looks;
       }
-
-  -- a post that gave an answer, or none
-  pub looks_answered : (p q : PostView) (d : BookState) (old new : O) → length q.answers ≡ length p.answers + 1
-      → LooksAt sees old d new → LooksIfAnswered sees p q d old new
-  looks_answered p q d old new more look = inl (more, look)
-
-  pub looks_silent : (p q : PostView) (d : BookState) (o : O) → q.answers ≡ p.answers → LooksIfAnswered sees p q d o o
-  looks_silent p q d o same = inr (ap (λ xs. length xs) same, refl)

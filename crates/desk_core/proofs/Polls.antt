@@ -1,35 +1,29 @@
 -- What a poll collects, and what it feeds then.
-use Rattle.std.proofs.Common.{◌≡◌, ◌⊎◌, ℕ, ◌+◌, ◌≤◌, ◌∙◌, List, [], ◌∷◌, ◌++◌, length, length-append, refl, sym, ap, subst, inl, arith, Option, None, Some}
+use Rattle.std.proofs.Common.{◌≡◌, ◌⊎◌, ℕ, ◌+◌, ◌≤◌, ◌∙◌, List, [], ◌∷◌, ◌++◌, length, refl, sym, ap, subst, inl, arith, Option, None, Some}
+use Rattle.std.proofs.lemmas.Grind.{common_steps}
 use Rattle.revision_jobs.specs.Answer.{JobResult}
 use Rattle.revision_jobs.specs.Posted.{PostView}
-use Rattle.dependency_book.specs.BookState.{BookState, given_of, pending_of}
-use Rattle.dependency_book.specs.Right.{IsRight}
+use Rattle.dependency_book.specs.BookState.{BookState, given_of}
 use Rattle.desk_core.specs.declared.cause.Cause.{Cause}
-use Rattle.desk_core.specs.declared.issue.IssueFault.{IssueFault}
-use Rattle.desk_core.specs.declared.polling.Polled.{Polled}
 use Rattle.desk_core.specs.declared.progress.Progress.{Progress}
 use Rattle.desk_core.specs.declared.unsent.Unsent.TheVariants.{Nothing}
-use Rattle.desk_core.specs.Feed.{Feeds}
-use Rattle.desk_core.specs.Polling.{Collects, IsCauseOf, Polls}
-use Rattle.desk_core.specs.Progress.{CollectsOn, FeedsOn, HasCome, at_rest, job_in, stage}
+use Rattle.desk_core.specs.Progress.{CollectsOn, HasCome, at_rest, job_in, stage}
 use Rattle.desk_core.specs.Settling.{GivesAtMost}
 use Rattle.desk_core.proofs.Steps.{GoesOn-idle, GoesOn-told, Idles, Keeps-come, ServesOn-come}
 
 -- how many answers came
 many_later : (before later all : List JobResult) (count : ℕ) → all ≡ before ++ later
     → length all ≡ length before + count → length later ≡ count
-many_later before later all count gave many =
-    let both = ap (λ xs. length xs) gave ∙ length-append before later in omega (arith, both, many)
+many_later before later all count gave many = grind (arith, common_steps)
 
 -- an answer more was collected
 pub many_on : (before all : List JobResult) (answer : JobResult) (first count : ℕ) → all ≡ before ++ answer ∷ []
     → length before ≡ first + count → length all ≡ first + (count + 1)
-many_on before all answer first count gave many =
-    let both = ap (λ xs. length xs) gave ∙ length-append before (answer ∷ []) in omega (arith, both, many)
+many_on before all answer first count gave many = grind (arith, common_steps)
 
 pub given_on : (first old new : BookState) → GivesAtMost 0 old new → given_of old ≡ given_of first
     → given_of new ≡ given_of first
-given_on first old new h same = let low = h.0 in let high = h.1 in omega (arith, low, high, same)
+given_on first old new h same = omega (arith, h.0, h.1, same)
 
 -- what was collected where it ends
 pub Collects-come : (old new : BookState) (p q : PostView) (progress : Progress) (count : ℕ)
@@ -59,27 +53,6 @@ nothing_more old new p q r progress count idles one come nothing given asked man
     Collects-come old new p r progress count (goes.comes old p come) nothing given
     (ap (λ xs. length xs) idles.answers ∙ many) (inl (omega (arith, one, asked)))
 
--- and then the post was fed
-
-none_of : (cause : Option Cause) → ((other : Cause) → cause ≡ Some other → ⊥) → cause ≡ None
+-- no cause was met
+pub none_of : (cause : Option Cause) → ((other : Cause) → cause ≡ Some other → ⊥) → cause ≡ None
 none_of cause h = grind arith
-
-pub comes-fed : (old mid new : BookState) (p q r : PostView) (met told : Option Cause) (taken : ℕ)
-    (refused : Option IssueFault) → ((cause : Cause) → met ≡ Some cause → ⊥) → CollectsOn p q old mid met
-    → FeedsOn q r mid new taken refused → IsCauseOf refused told → HasCome old p (stage new r (at_rest told))
-comes-fed old mid new p q r met told taken refused none collects fed is =
-    fed.comes told is old p (subst (λ c. HasCome old p (stage mid q (at_rest c))) (none_of met none) collects.comes)
-
-pub Polls-fed : (old mid new : BookState) (p q r : PostView) (met : Option Cause) (taken : ℕ)
-    (refused : Option IssueFault) (polled : Polled) → ((cause : Cause) → met ≡ Some cause → ⊥)
-    → Collects p q old mid met → Feeds q r mid new taken refused → IsCauseOf refused polled.cause
-    → polled.pending ≡ pending_of new → IsRight new → Polls p r old new polled
-Polls-fed old mid new p q r met taken refused polled none collects feeds is pending right = record {
-  met = None;
-  post = q;
-  desk = mid;
-  collects = subst (Collects p q old mid) (none_of met none) collects;
-  feeds = (taken, (refused, (feeds, is)));
-  pending = pending;
-  right = right;
-}

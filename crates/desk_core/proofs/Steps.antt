@@ -300,13 +300,8 @@ tells-released old new p q before after answer fault told receives same gave is 
 given_up : (unsent : Option Job) (old new : BookState) → CancelsAny unsent old new
     → SameBook old new × KeepsKnown old new × ((need : Need) (job : Job) → expected new need ≡ Some job
     → (expected old need ≡ Some job) × (unsent ≡ Some job → ⊥))
-given_up None old new same = subst
-    (λ (d : BookState). SameBook old d × KeepsKnown old d × ((need : Need) (job : Job) → expected d need ≡ Some job
-    → (expected old need ≡ Some job) × (None ≡ Some job → ⊥))) (sym same) (
-      record { document = SameDocument-same old; entries = refl; refused = refl },
-      λ need value is. is,
-      λ need job k. (k, λ is. cc),
-    )
+given_up None old new same =
+    (grind arith, λ need value is. grind arith, λ need job k. (grind arith, λ is. cc))
 given_up (Some job) old new h = (
   h.book,
   KeepsKnown-cancelled old new job.number h.rows,

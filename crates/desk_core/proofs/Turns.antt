@@ -5,7 +5,6 @@ use Rattle.std.proofs.lemmas.List.Sums.{count_by-le-length}
 use Rattle.revision_jobs.specs.declared.answer.Job.{Job}
 use Rattle.revision_jobs.specs.Answer.{JobResult}
 use Rattle.revision_jobs.specs.Posted.{PostView}
-use Rattle.desk_events.specs.declared.need.Need.{Need}
 use Rattle.dependency_book.specs.RowState.{is_empty}
 use Rattle.dependency_book.specs.Rows.{ArrivalRow, TextRow}
 use Rattle.dependency_book.specs.Jobs.{IsAnyOut}
@@ -15,15 +14,9 @@ use Rattle.desk_core.specs.declared.progress.Progress.{Progress}
 use Rattle.desk_core.specs.declared.settling.Settling.{Settling}
 use Rattle.desk_core.specs.declared.unsent.Unsent.{Unsent}
 use Rattle.desk_core.specs.declared.unsent.Unsent.TheVariants.{Nothing, Ready, Waiting}
-use Rattle.desk_core.specs.Issued.{IssuesFor}
 use Rattle.desk_core.specs.Progress.{Advances, Asks, CancelsAny, Frees, GoesOn, IsAtHand, IsDone, IsDoneBy, Nears, RunsOut, Stage, job_in, stage, turns_at, turns_for, turns_from}
 use Rattle.desk_core.specs.Settling.{Ends, Explains, HasCause, IsEnding, IsWhy, SawStop, rows_of}
 use Rattle.desk_core.proofs.Out.{held_out}
-
--- a job that is issued takes no more turns than the row that wanted it
-pub turns-issued : (old new : BookState) (unsent : Unsent) (need : Need) (job : Job) (held : Option Job)
-    → unsent ≡ Nothing → IssuesFor old new job need → turns_from new (Ready job) held ≤ turns_from old unsent held
-turns-issued old new unsent need job held was issued = let fewer = issued.is.fewer in grind arith
 
 pub nears_on : (s mid t : Stage) (next : ControlFlow Unit Unit) → turns_at mid ≤ turns_at s → Nears mid t next → Nears s t next
 nears_on s mid t next h k = grind arith

@@ -1,16 +1,30 @@
-use Rattle.std.proofs.Common.{refl}
-use Rattle.desk_core.proofs.Polls.{Polls-fed, comes-fed}
+use Rattle.std.proofs.Common.{refl, subst, None}
+use Rattle.desk_core.specs.Progress.{CollectsOn}
+use Rattle.desk_core.proofs.Polls.{none_of}
 use Rattle.desk_core.proofs.Steps.{Keeps-come, ServesOn-come}
 use Rattle.desk_core.proofs.polling.poll.Goals as goal
 
 pub returns : goal.returns
 returns g c =
-    let come = comes-fed _ _ _ _ _ _ _ _ _ _ c.in_default.not-Some c.collect_all.ensures c.feed_on.ensures
-    c.cause_of-cause.ensures in
+    let old = c.args.desk.now in
+    let mid = c.collect_all.new.desk in
+    let p = g.P.Post.view c.args.post.now in
+    let q = g.P.Post.view c.collect_all.new.post in
+    let collected = subst (CollectsOn p q old mid) (none_of c.collect_all.result c.in_default.not-Some)
+    c.collect_all.ensures in
+    let fed = c.feed_on.ensures in
+    let come = fed.comes c.cause_of-cause.result c.cause_of-cause.ensures old p collected.comes in
     record {
       keeps = Keeps-come _ _ _ _ _ refl come;
       post = ServesOn-come _ _ _ _ _ refl come;
       cause = come.told;
-      polls = Polls-fed _ _ _ _ _ _ _ _ _ _ c.in_default.not-Some c.collect_all.ensures.collects
-          c.feed_on.ensures.feeds c.cause_of-cause.ensures c.pending-2.ensures.count c.pending-2.ensures.right;
+      polls = record {
+        met = None;
+        post = q;
+        desk = mid;
+        collects = collected.collects;
+        feeds = (c.feed_on.result.taken, (c.feed_on.result.refused, (fed.feeds, c.cause_of-cause.ensures)));
+        pending = c.pending-2.ensures.count;
+        right = c.pending-2.ensures.right;
+      };
     }

@@ -6,16 +6,11 @@ use Rattle.desk_core.proofs.settling.settle_seen.Goals as goal
 
 pub returns-clause-settles : goal.returns-clause-settles
 returns-clause-settles g c =
-    let run = c.run-unsent in
-    settles-whole c.args.desk.now run.new.desk c.cancel.new.desk (g.P.Post.view c.args.post.now)
-    (g.P.Post.view run.new.post) run.result run.ensures.comes c.cancel.ensures c.args.turns run.ensures.given
-    c.pending.ensures.right
+    settles-whole _ _ _ _ _ c.run-unsent.result c.run-unsent.ensures.comes c.cancel.ensures _
+    c.run-unsent.ensures.given c.pending.ensures.right
 
 pub returns-clause-post : goal.returns-clause-post
-returns-clause-post g c =
-    let run = c.run-unsent in
-    serves-whole c.args.desk.now run.new.desk c.cancel.new.desk (g.P.Post.view c.args.post.now)
-    (g.P.Post.view run.new.post) run.result run.ensures.comes c.cancel.ensures
+returns-clause-post g c = serves-whole _ _ _ _ _ c.run-unsent.result c.run-unsent.ensures.comes c.cancel.ensures
 
 pub returns-clause-ends : goal.returns-clause-ends
 returns-clause-ends g c =
@@ -40,6 +35,3 @@ returns-clause-caused g c = λ all enough.
     (cause-left run.new.desk c.cancel.new.desk (g.P.Post.view run.new.post) run.result c.pending.result
     (run.ensures.done all enough) c.cancel.ensures c.pending.ensures.count
     (λ out none. c.pending.ensures.count ∙ none_pending c.cancel.new.desk c.pending.ensures.right out none))
-
-pub returns-clause-looked : goal.returns-clause-looked
-returns-clause-looked g c = c.run-unsent.ensures.looked

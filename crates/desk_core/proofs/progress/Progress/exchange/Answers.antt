@@ -3,8 +3,7 @@ use Rattle.dependency_book.specs.Jobs.{IsAnyOut}
 use Rattle.desk_core.specs.declared.unsent.Unsent.{Unsent}
 use Rattle.desk_core.specs.declared.unsent.Unsent.TheVariants.{Ready}
 use Rattle.desk_core.specs.declared.progress.Progress.{Progress}
-use Rattle.desk_core.specs.Progress.{Advances, Fits, GoesOn, job_in, stage}
-use Rattle.desk_core.proofs.Looks.{looks_silent}
+use Rattle.desk_core.specs.Progress.{Advances, GoesOn, job_in, stage}
 use Rattle.desk_core.proofs.Steps.{GoesOn-on, GoesOn-told}
 use Rattle.desk_core.proofs.Turns.{advances-received, fewer-nothing, fewer-waiting}
 use Rattle.desk_core.proofs.progress.Progress.exchange.Goals as goal
@@ -13,33 +12,6 @@ use Rattle.desk_core.proofs.progress.Progress.exchange.Goals as goal
 as_shown : (P : Progress → Type 0) (progress : Progress) (shown : Unsent) → progress.unsent ≡ shown
     → P (record { unsent = shown; cause = progress.cause }) → P progress
 as_shown P progress shown is h = subst (λ u. P (record { unsent = u; cause = progress.cause })) (sym is) h
-
-pub send-requires-clause-fits : goal.send-requires-clause-fits
-send-requires-clause-fits g c =
-    subst (λ u. Fits c.args.desk.now (g.P.Post.view c.args.post.now) (job_in u))
-    (sym c.replace.ensures.value ∙ c.in-Ready.is) c.requires.fits
-
-pub receive-requires : goal.receive-requires
-receive-requires g c =
-    subst (λ u. Fits c.args.desk.now (g.P.Post.view c.args.post.now) (job_in u))
-    (sym c.replace.ensures.value ∙ c.in-Waiting.is) c.requires.fits
-
-pub receive-requires-then-is_out : goal.receive-requires-then-is_out
-receive-requires-then-is_out g c =
-    subst (λ u. Fits c.args.desk.now (g.P.Post.view c.args.post.now) (job_in u))
-    (sym c.replace.ensures.value ∙ c.in-Nothing.is ∙ sym c.replace.ensures.after) c.requires.fits
-
-pub returns-in-Ready-clause-goes : goal.returns-in-Ready-clause-goes
-returns-in-Ready-clause-goes g c =
-    let t = stage c.send.new.desk (g.P.Post.view c.send.new.post) c.send.new.self in
-    as_shown (λ s. GoesOn 0 (stage c.args.desk.now (g.P.Post.view c.args.post.now) s) t) c.args.self.now
-    (Ready c.in-Ready.job) (sym c.replace.ensures.value ∙ c.in-Ready.is) c.send.ensures.goes
-
-pub returns-in-Ready-clause-nears : goal.returns-in-Ready-clause-nears
-returns-in-Ready-clause-nears g c =
-    let t = stage c.send.new.desk (g.P.Post.view c.send.new.post) c.send.new.self in
-    as_shown (λ s. Advances (stage c.args.desk.now (g.P.Post.view c.args.post.now) s) t c.send.result)
-    c.args.self.now (Ready c.in-Ready.job) (sym c.replace.ensures.value ∙ c.in-Ready.is) c.send.ensures.nears
 
 pub returns-in-Waiting-clause-goes : goal.returns-in-Waiting-clause-goes
 returns-in-Waiting-clause-goes g c =
@@ -60,14 +32,6 @@ returns-in-Waiting-clause-nears g c =
     (λ at_hand. fewer-waiting c.in-Waiting.job before.unsent post.held
     (sym c.replace.ensures.value ∙ c.in-Waiting.is)) c.receive.ensures.frees
 
-pub returns-then-is_out-clause-goes : goal.returns-then-is_out-clause-goes
-returns-then-is_out-clause-goes g c =
-    let receive = c.receive-then-is_out in
-    let t = stage receive.new.desk (g.P.Post.view receive.new.post) receive.new.self in
-    as_shown (λ s. GoesOn 0 (stage c.args.desk.now (g.P.Post.view c.args.post.now) s) t) c.args.self.now
-    c.replace.new.dest (sym c.replace.ensures.value ∙ c.in-Nothing.is ∙ sym c.replace.ensures.after)
-    receive.ensures.goes
-
 pub returns-then-is_out-clause-nears : goal.returns-then-is_out-clause-nears
 returns-then-is_out-clause-nears g c =
     let receive = c.receive-then-is_out in
@@ -81,19 +45,16 @@ returns-then-is_out-clause-nears g c =
     (sym c.replace.ensures.value ∙ c.in-Nothing.is)
     (subst (IsAnyOut c.args.desk.now) c.if-is_out.true c.is_out.ensures)) receive.ensures.frees
 
-pub returns-else-is_out-clause-goes : goal.returns-else-is_out-clause-goes
-returns-else-is_out-clause-goes g c =
-    let before = c.args.self.now in
-    let left : Progress = record { unsent = c.replace.new.dest; cause = before.cause } in
-    GoesOn-told c.args.desk.now (g.P.Post.view c.args.post.now) before left
-    (ap job_in (c.replace.ensures.after ∙ sym c.in-Nothing.is ∙ c.replace.ensures.value)) refl
+pub returns-in-Ready-clause-nears : goal.returns-in-Ready-clause-nears
+returns-in-Ready-clause-nears g c =
+    let t = stage c.send.new.desk (g.P.Post.view c.send.new.post) c.send.new.self in
+    as_shown (λ s. Advances (stage c.args.desk.now (g.P.Post.view c.args.post.now) s) t c.send.result)
+    c.args.self.now (Ready c.in-Ready.job) (sym c.replace.ensures.value ∙ c.in-Ready.is) c.send.ensures.nears
 
-pub returns-in-Ready-clause-looked : goal.returns-in-Ready-clause-looked
-returns-in-Ready-clause-looked g c =
-    looks_silent g.O.Onlooker.sees (g.P.Post.view c.args.post.now) (g.P.Post.view c.send.new.post) c.send.new.desk
-    c.args.onlooker.now c.send.ensures.silent
-
-pub returns-else-is_out-clause-looked : goal.returns-else-is_out-clause-looked
-returns-else-is_out-clause-looked g c =
-    looks_silent g.O.Onlooker.sees (g.P.Post.view c.args.post.now) (g.P.Post.view c.args.post.now) c.args.desk.now
-    c.args.onlooker.now refl
+pub returns-then-is_out-clause-goes : goal.returns-then-is_out-clause-goes
+returns-then-is_out-clause-goes g c =
+    let receive = c.receive-then-is_out in
+    let t = stage receive.new.desk (g.P.Post.view receive.new.post) receive.new.self in
+    as_shown (λ s. GoesOn 0 (stage c.args.desk.now (g.P.Post.view c.args.post.now) s) t) c.args.self.now
+    c.replace.new.dest (sym c.replace.ensures.value ∙ c.in-Nothing.is ∙ sym c.replace.ensures.after)
+    receive.ensures.goes

@@ -1,4 +1,4 @@
-use Rattle.std.proofs.Common.{arith, inl, inr}
+use Rattle.std.proofs.Common.{arith}
 use Rattle.desk_core.specs.Progress.{stage}
 use Rattle.desk_core.proofs.Looks.{looked_at, looks_first, looks_then}
 use Rattle.desk_core.proofs.Steps.{HasCome-first, none_before}
@@ -15,16 +15,9 @@ loop-init g c =
       asked = omega arith;
       turns = λ all enough none. turns-at_first c.args.desk.now c.begun-progress.result.unsent
           (g.P.Post.view c.args.post.now).held c.args.turns begun.0 enough;
-      looked = looks_first g.O.Onlooker.sees (g.P.Post.view c.args.post.now) c.args.desk.now c.args.onlooker.now c.look.new.self
-          (looked_at g.O.Onlooker.sees c.look.result c.args.onlooker.now c.look.new.self c.args.desk.now c.look.ensures.seen
-          c.look.ensures.unseen);
+      looked = looks_first g.O.Onlooker.sees (g.P.Post.view c.args.post.now) _ _ _
+          (looked_at g.O.Onlooker.sees c.look.result _ _ _ c.look.ensures.seen c.look.ensures.unseen);
     }
-
-pub turn-requires : goal.turn-requires
-turn-requires g c = c.loop.invariant.comes.jobs.fits
-
-pub returns-in-Break-clause-comes : goal.returns-in-Break-clause-comes
-returns-in-Break-clause-comes g c = c.turn.ensures.goes.comes _ _ c.loop.invariant.comes
 
 pub returns-in-Break-clause-ended : goal.returns-in-Break-clause-ended
 returns-in-Break-clause-ended g c =
@@ -52,17 +45,10 @@ loop-preserved g c =
       turns = λ all enough none. turns-on s t c.turn.result c.loop.counter c.args.turns c.in-Continue.is
           (c.loop.invariant.turns all enough (none_before _ _ c.turn.ensures.goes.cause none))
           (c.turn.ensures.nears _ _ c.loop.invariant.comes all none);
-      looked = looks_then g.O.Onlooker.sees (g.P.Post.view c.args.post.now) (g.P.Post.view c.loop.post) (g.P.Post.view c.turn.new.post)
-          c.args.desk.now c.turn.new.desk c.args.onlooker.now c.loop.onlooker c.turn.new.onlooker (c.turn.ensures.goes.comes _ _ c.loop.invariant.comes).document.plan
-          c.loop.invariant.looked c.turn.ensures.looked;
+      looked = looks_then g.O.Onlooker.sees _ (g.P.Post.view c.loop.post) (g.P.Post.view c.turn.new.post) _ c.turn.new.desk
+          _ _ _ (c.turn.ensures.goes.comes _ _ c.loop.invariant.comes).document.plan c.loop.invariant.looked
+          c.turn.ensures.looked;
     }
-
-pub returns-clause-comes : goal.returns-clause-comes
-returns-clause-comes g c = c.loop.invariant.comes
-
-pub returns-clause-ended : goal.returns-clause-ended
-returns-clause-ended g c =
-    let asked = c.loop.invariant.asked in let spent = c.loop-test.false in inr (inl (omega (arith, asked, spent)))
 
 pub returns-clause-done : goal.returns-clause-done
 returns-clause-done g c = λ all enough none.
@@ -71,9 +57,8 @@ returns-clause-done g c = λ all enough none.
 
 pub returns-in-Break-clause-looked : goal.returns-in-Break-clause-looked
 returns-in-Break-clause-looked g c =
-    looks_then g.O.Onlooker.sees (g.P.Post.view c.args.post.now) (g.P.Post.view c.loop.post) (g.P.Post.view c.turn.new.post)
-    c.args.desk.now c.turn.new.desk c.args.onlooker.now c.loop.onlooker c.turn.new.onlooker (c.turn.ensures.goes.comes _ _ c.loop.invariant.comes).document.plan
-    c.loop.invariant.looked c.turn.ensures.looked
+    looks_then g.O.Onlooker.sees _ (g.P.Post.view c.loop.post) (g.P.Post.view c.turn.new.post) _ c.turn.new.desk _ _ _
+    (c.turn.ensures.goes.comes _ _ c.loop.invariant.comes).document.plan c.loop.invariant.looked c.turn.ensures.looked
 
-pub returns-clause-looked : goal.returns-clause-looked
-returns-clause-looked g c = c.loop.invariant.looked
+pub returns-in-Break-clause-comes : goal.returns-in-Break-clause-comes
+returns-in-Break-clause-comes g c = c.turn.ensures.goes.comes _ _ c.loop.invariant.comes

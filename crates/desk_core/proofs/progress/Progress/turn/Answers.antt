@@ -3,9 +3,6 @@ use Rattle.desk_core.proofs.Steps.{GoesOn-on, none_before}
 use Rattle.desk_core.proofs.Turns.{nears_on}
 use Rattle.desk_core.proofs.progress.Progress.turn.Goals as goal
 
-pub exchange-requires-clause-fits : goal.exchange-requires-clause-fits
-exchange-requires-clause-fits g c = (c.issue.ensures.goes (g.P.Post.view c.args.post.now)).fits c.requires
-
 pub returns-clause-goes : goal.returns-clause-goes
 returns-clause-goes g c =
     GoesOn-on _ _ _ (c.issue.ensures.goes (g.P.Post.view c.args.post.now)) c.exchange.ensures.goes
