@@ -1,5 +1,5 @@
 -- What feeding a post does with each job.
-use Rattle.std.proofs.Common.{◌≡◌, ◌⊎◌, ℕ, ◌+◌, ◌∙◌, Bool, true, false, refl, sym, ap, subst, inl, inr, arith, Option, None, Some}
+use Rattle.std.proofs.Common.{◌≡◌, ◌⊎◌, ℕ, ◌+◌, ◌∙◌, Bool, true, refl, sym, ap, subst, inl, inr, arith, Option, None, Some}
 use Rattle.std.specs.Prelude.{if◌then◌else◌}
 use Rattle.std.proofs.lemmas.Bool.Decides.{nat_tests}
 use Rattle.revision_jobs.specs.declared.answer.Job.{Job}
@@ -10,7 +10,7 @@ use Rattle.revision_jobs.specs.Value.{Value}
 use Rattle.dependency_book.specs.declared.row.RowState.{RowState}
 use Rattle.dependency_book.specs.declared.row.RowState.TheVariants.{Empty, Expected}
 use Rattle.desk_events.specs.declared.need.Need.{Need}
-use Rattle.dependency_book.specs.RowState.{job_of, has_number}
+use Rattle.dependency_book.specs.RowState.{job_of}
 use Rattle.dependency_book.specs.Jobs.{cancelled}
 use Rattle.desk_events.specs.Needs.{is_need}
 use Rattle.dependency_book.specs.BookState.{BookState, given_of, row_of}
@@ -45,8 +45,9 @@ pub record HasFed (first d : BookState) (p q : PostView) (taken : ℕ) : Type 0 
 pub HasFed-first : (d : BookState) (post : PostView) → Serves d post → HasFed d d post post 0
 HasFed-first d post serves = grind arith
 
-some_more : (before first taken : ℕ) → floor_after before first (taken + 1) ≡ first + (taken + 1)
-some_more before first taken = grind (arith, nat_tests)
+some_more : (before first taken given number floor : ℕ) → floor ≡ number + 1 → number ≡ given → given ≡ first + taken
+    → floor ≡ floor_after before first (taken + 1)
+some_more before first taken given number floor rises is was = grind (arith, nat_tests)
 
 -- what stood in a row stands there still after more
 stays_on : (first old new : RowState Value) → (first ≡ Empty) ⊎ (old ≡ first) → (old ≡ Empty) ⊎ (new ≡ old)
@@ -61,16 +62,15 @@ HasFed-taken first old new need job p q r taken issued sends h =
     let is = issued.next.number in
     let one = issued_given issued in
     let was = h.given in
-    let number : job.number + 1 ≡ given_of first + (taken + 1) = omega (arith, is, was) in
     let none = at_rest None in
     let goes = GoesOn-on (stage old q none) (stage new q (ready job none)) (stage new r none)
     (GoesOn-issued old new q none need job refl refl issued) (GoesOn-sent new q r none job sends refl) in
     record {
       stays = λ other. stays_on (row_of first other) (row_of old other) (row_of new other) (h.stays other)
           (stays-issued old new need job issued other);
-      floor = sends.sent ∙ number ∙ sym (some_more p.floor (given_of first) taken);
+      floor = some_more p.floor (given_of first) taken (given_of old) job.number r.floor sends.sent is was;
       given = omega (arith, one, was);
-      asked = let more = sends.same.asked in let before = h.asked in omega (arith, more, before);
+      asked = omega (arith, sends.same.asked, h.asked);
       silent = sends.answers ∙ h.silent;
       refused = issued.is.refused ∙ h.refused;
       began = h.began;
@@ -79,35 +79,21 @@ HasFed-taken first old new need job p q r taken issued sends h =
     }
 
 -- a job that is cancelled leaves the rows as they were before it was issued
-cancelled_other : (number : ℕ) (row : RowState Value)
-    → ((job : Job) → job_of row ≡ Some job → has_number number (Some job) ≡ false) → cancelled number row ≡ row
-cancelled_other number (Expected job) h = ap (λ b. if b then Empty else Expected job) (h job refl)
-cancelled_other number row h = refl
-
-other_number : (n : ℕ) (job : Job) → (job.number ≡ n → ⊥) → has_number n (Some job) ≡ false
-other_number n job differs = grind (arith, nat_tests)
-
-own_number : (job : Job) → cancelled job.number (Expected job) ≡ Empty
-own_number job = grind (arith, nat_tests)
-
 pub rows-undone : (old mid new : BookState) (need : Need) (job : Job) → IssuesFor old mid job need → IsRight mid
     → ((other : Need) → row_of new other ≡ cancelled job.number (row_of mid other)) → (other : Need)
     → row_of new other ≡ row_of old other
-rows-undone old mid new need job issued right rows other = rows other ∙ by_test (is_need need other) refl
+rows-undone old mid new need job issued right rows other =
+    rows other ∙ undone (is_need need other) (row_of old other) (row_of mid other) (issued.is.rows other)
+    (λ this. ap (row_of old) (sym (need_is need other this)) ∙ issued.empty)
+    (λ out is number. subst (λ n. is_need need n ≡ true)
+    (once mid need other job out right (ap job_of there) is (sym number)) (need_same need))
   where
     there : row_of mid need ≡ Expected job
     there = issued.is.rows need ∙ ap (λ b. if b then Expected job else row_of old need) (need_same need)
 
-    by_test : (b : Bool) → is_need need other ≡ b → cancelled job.number (row_of mid other) ≡ row_of old other
-    by_test true this =
-        let same = need_is need other this in
-        ap (λ n. cancelled job.number (row_of mid n)) (sym same) ∙ ap (cancelled job.number) there ∙ own_number job
-        ∙ sym issued.empty ∙ ap (row_of old) same
-    by_test false differs =
-        cancelled_other job.number (row_of mid other) (λ out is. other_number job.number out (λ number.
-        let same = once mid need other job out right (ap job_of there) is (sym number) in
-        let this : is_need need other ≡ true = subst (λ n. is_need need n ≡ true) same (need_same need) in
-        cc)) ∙ issued.is.rows other ∙ ap (λ b. if b then Expected job else row_of old other) differs
+    undone : (b : Bool) (was is : RowState Value) → is ≡ (if b then Expected job else was) → (b ≡ true → was ≡ Empty)
+        → ((out : Job) → job_of is ≡ Some out → out.number ≡ job.number → b ≡ true) → cancelled job.number is ≡ was
+    undone b was is issues empty alone = grind (arith, nat_tests)
 
 -- what a feeding leaves
 fed : (first new : BookState) (p q : PostView) (taken : ℕ) (refused : Option IssueFault) (cause : Option Cause)
@@ -174,6 +160,6 @@ fed-refused first old mid new need job p q r taken said issued middle cancels ot
     (inr (rows-undone old mid new need job issued middle cancels.rows other)))
     right (idles.floor ∙ h.floor) (sends.answers ∙ h.silent)
     (inr (record {
-      given = let was = h.given in omega (arith, one, was, still);
-      asked = let more = sends.same.asked in let was = h.asked in omega (arith, more, was);
+      given = omega (arith, one, h.given, still);
+      asked = omega (arith, sends.same.asked, h.asked);
     }))

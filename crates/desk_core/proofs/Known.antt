@@ -1,5 +1,5 @@
 -- What is known stays so while jobs come and go.
-use Rattle.std.proofs.Common.{◌≡◌, ◌⊎◌, ℕ, ◌∙◌, Bool, true, false, refl, sym, ap, arith, inl, inr}
+use Rattle.std.proofs.Common.{◌≡◌, ◌⊎◌, ℕ, ◌∙◌, Bool, true, sym, ap, arith}
 use Rattle.std.specs.Prelude.{if◌then◌else◌}
 use Rattle.revision_jobs.specs.declared.answer.Job.{Job}
 use Rattle.revision_jobs.specs.Answer.{JobResult}
@@ -27,13 +27,13 @@ KeepsKnown-stays old new stays need value is = by_row (row_of old need) (row_of 
 -- a job is issued for a row in which nothing stands
 pub stays-issued : (old new : BookState) (need : Need) (job : Job) → IssuesFor old new job need → (other : Need)
     → (row_of old other ≡ Empty) ⊎ (row_of new other ≡ row_of old other)
-stays-issued old new need job issued other = by_test (is_need need other) refl
+stays-issued old new need job issued other =
+    stays (is_need need other) (row_of old other) (row_of new other)
+    (λ this. ap (row_of old) (sym (need_is need other this)) ∙ issued.empty) (issued.is.rows other)
   where
-    by_test : (b : Bool) → is_need need other ≡ b
-        → (row_of old other ≡ Empty) ⊎ (row_of new other ≡ row_of old other)
-    by_test true this = inl (ap (row_of old) (sym (need_is need other this)) ∙ issued.empty)
-    by_test false differs =
-        inr (issued.is.rows other ∙ ap (λ b. if b then Expected job else row_of old other) differs)
+    stays : (b : Bool) (was is : RowState Value) → (b ≡ true → was ≡ Empty) → is ≡ (if b then Expected job else was)
+        → (was ≡ Empty) ⊎ (is ≡ was)
+    stays b was is empty issues = grind arith
 
 -- a job is cancelled
 pub KeepsKnown-cancelled : (old new : BookState) (number : ℕ)

@@ -23,7 +23,6 @@ use Rattle.desk_core.specs.declared.cause.Cause.{Cause}
 use Rattle.desk_core.specs.declared.collect.Collected.{Collected}
 use Rattle.desk_core.specs.declared.collect.Collected.TheVariants.{Released}
 use Rattle.desk_core.specs.declared.issue.IssueFault.{IssueFault}
-use Rattle.desk_core.specs.declared.issue.IssueFault.TheVariants as issue
 use Rattle.desk_core.specs.declared.progress.Progress.{Progress}
 use Rattle.desk_core.specs.declared.unsent.Unsent.TheVariants.{Nothing}
 use Rattle.desk_core.specs.Collected.{IsCollected}
@@ -114,13 +113,13 @@ GoesOn-issued old new post p need job was none issued =
     record {
       cause = grind arith;
       given = omega (arith, one);
-      fits = fits one is;
+      fits = fits one is issued.next.own issued.is.document.table;
       comes = λ first begun h. record {
         known = λ other value there.
             KeepsKnown-stays old new (stays-issued old new need job issued) other value (h.known other value there);
         document = SameDocument-on first old new h.document issued.is.document;
         jobs = record {
-          fits = fits one is h.jobs.fits;
+          fits = fits one is issued.next.own issued.is.document.table h.jobs.fits;
           out = λ other out k. elim (issued_out old new need job issued.is.rows other out k) [
             | inl before ↦ newly nothing (h.jobs.out other out before)
             | inr this ↦ inr (inl this)
@@ -148,19 +147,9 @@ GoesOn-issued old new post p need job was none issued =
         → A ⊎ ((Some job ≡ Some out) ⊎ (out.number < f))
     newly without h = grind arith
 
-    fits : given_of new ≡ given_of old + 1 → job.number ≡ given_of old → Fits old post (job_in p.unsent)
-        → Fits new post (Some job)
-    fits one is fit = let least = fit.serves.numbers in record {
-      serves = record {
-        table = fit.serves.table ∙ sym issued.is.document.table;
-        numbers = omega (arith, one, least);
-      };
-      unsent = record {
-        own = subst (λ table. IsOf table job.place) (sym issued.is.document.table) issued.next.own;
-        rises = omega (arith, is, least);
-        given = omega (arith, is, one);
-      };
-    }
+    fits : given_of new ≡ given_of old + 1 → job.number ≡ given_of old → IsOf old.table job.place
+        → new.table ≡ old.table → Fits old post (job_in p.unsent) → Fits new post (Some job)
+    fits one is own table fit = grind arith
 
 -- no job is issued or sent, and no answer comes: what is out was so before, and of it is to be sent what was
 lost : (most : ℕ) (old new : BookState) (post : PostView) (p q : Progress) → KeepsKnown old new → SameDocument old new
@@ -211,14 +200,7 @@ pub record IsBarred (old new : BookState) : Type 0 where
   pub rows : (need : Need) → row_of new need ≡ row_of old need
 
 pub barred : (old new : BookState) (fault : IssueFault) → RefusesIssue old new fault → IsBarred old new
-barred old new issue.NumbersSpent refuses = subst (IsBarred old) (sym refuses.2)
-    (record { document = SameDocument-same old; given = refl; refused = omega arith; rows = λ need. refl })
-barred old new issue.NoMemory refuses = subst (IsBarred old) (sym refuses.2) (record {
-  document = record { table = refl; plan = refl; marks = refl; bookmarks = refl };
-  given = refl;
-  refused = omega arith;
-  rows = λ need. refl;
-})
+barred old new fault refuses = grind arith
 
 pub GoesOn-refused : (old new : BookState) (post : PostView) (p q : Progress) (fault : IssueFault)
     → p.cause ≡ None → q.unsent ≡ p.unsent → q.cause ≡ Some (cause_of_issue fault) → RefusesIssue old new fault

@@ -82,7 +82,7 @@ pub saw-released : (begun p q : PostView) (answer : JobResult) (fault : EvolveFa
     → p.is_prompt ≡ begun.is_prompt → begun.stops ≤ p.stops → Receives p q (Answer answer)
     → answer.outcome ≡ Err fault → SawStop begun q (cause_of_answer fault)
 saw-released begun p q answer EvolveFault.Stopped kind before receives gave = λ prompt.
-    let once = (receives.stopped (kind ∙ prompt)).stopped gave in omega (arith, before, once)
+    omega (arith, before, (receives.stopped (kind ∙ prompt)).stopped gave)
 saw-released begun p q answer fault kind before receives gave = tt
 
 -- what was seen raised was so however many more are
