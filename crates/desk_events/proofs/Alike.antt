@@ -30,9 +30,6 @@ where_known : (p q : Plan) (m : Mark) (o : Option World)
     (cells_of q.interventions m) → LaysAlike p q m
 where_known p q m o arrives h = grind arith
 
-elsewhere : (p q : Plan) (m : Mark) → cells_of p.interventions m ≡ cells_of q.interventions m → LaysAlike p q m
-elsewhere p q m same = ap (λ cs. lay cs (arrival p m.branch m.generation)) same
-
 -- so they do where something acts, as far as its branch reaches, if it is unfelt there
 where_acting : (p q : Plan) (known : Mark → Option World) (branch : ℕ) (acts : Acts) (m : Mark) → Arrives known p
     → IsUnfeltWhere known p q branch acts → (branch == m.branch && acts_on acts m.generation) ≡ true
@@ -55,7 +52,7 @@ alike_each p q known (Some t) m arrives same h far =
     (λ off.
     either_way (t.branch == m.branch && acts_on t.is m.generation)
     (λ later. where_acting p q known t.branch t.is m arrives h.1 later far)
-    (λ none. elsewhere p q m (same m.branch m.generation off none)))
+    (λ none. ap (λ cs. lay cs (arrival p m.branch m.generation)) (same m.branch m.generation off none)))
 
 alike : (p : Plan) (known : Mark → Option World) (asked : Asked) → IsSound p → Arrives known p
     → IsUnfelt known p asked (changed p asked).plan → p.rule ≡ (changed p asked).plan.rule

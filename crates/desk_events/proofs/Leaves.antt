@@ -132,8 +132,7 @@ shows_none p n id b free is = none_shown p.bookmarks n id b (unused p n free).bo
 touched_left : (p : Plan) (others : List Intervention) (o : Option Touched) (m : Mark) → IsSound p
     → SameUntouched p.interventions others o → keeps_arrival p.branches (from_touched o false) m ≡ true
     → arrival p m.branch m.generation ≡ arrival (record p { interventions = others }) m.branch m.generation
-touched_left p others None m sound same stays =
-    ap (λ is. arrival (record p { interventions = is }) m.branch m.generation) same
+touched_left p others None m sound same stays = grind arith
 touched_left p others (Some t) m sound same stays =
     let from = first_touched t in
     arrival-unfelt p sound others from.branch from.generation (untouched_elsewhere p.interventions others t same)

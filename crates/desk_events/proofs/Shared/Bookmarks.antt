@@ -34,8 +34,7 @@ moved_id id g b = grind arith
 pub in_moved : (bs : List Bookmark) (i g id : ℕ) → bookmark_in (changed_at bookmark_id (marking g) bs i) id ≡ moved_in i g
     (bookmark_in bs id)
 in_moved [] i g id = refl
-in_moved (b ∷ bs) i g id =
-    rw (moved_id i g b) (either_way (b.id == id) (λ hit. rw hit refl) (λ miss. rw miss (in_moved bs i g id)))
+in_moved (b ∷ bs) i g id = grind (arith, nat_tests, in_moved bs i g id)
 
 pub in_removed : (bs : List Bookmark) (i id : ℕ) → bookmark_in (without bookmark_id bs i) id ≡
     (if i == id then None else bookmark_in bs id)

@@ -147,9 +147,8 @@ before_one p a b m sound h k =
 
     earlier : (p : Plan) (a b m : Mark) → Precedes p a m → Precedes p b m → a.generation < b.generation → ⊥
     earlier p a b m h k less =
-        let here : is_mark p (mark_at m.branch b.generation) ≡ true =
-        ap (λ n. is_mark p (mark_at n b.generation)) (sym k.branch) ∙ k.is in
-        clash (is_mark p (mark_at m.branch b.generation)) here (h.between b.generation less k.below)
+        clash (is_mark p (mark_at m.branch b.generation)) (ap (λ n. is_mark p (mark_at n b.generation)) (sym k.branch) ∙ k.is)
+        (h.between b.generation less k.below)
 
     one : (p : Plan) (a b m : Mark) → Precedes p a m → Precedes p b m → a ≡ b
     one p a b m h k = grind (arith, earlier p a b m h k, earlier p b a m k h)

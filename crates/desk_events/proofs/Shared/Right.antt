@@ -46,6 +46,12 @@ pub picked : {A X : Type 0} (b : Bool) (x y : X) → (b ≡ true → (if b then 
 picked true x y hit miss = hit refl refl
 picked false x y hit miss = miss refl refl
 
+-- something right stands either way
+stands_if : (es : List Entry) (p : Plan) (need : Need) (b : Bool) (x y : Row) → (b ≡ true → Stands es p need x)
+    → (b ≡ false → Stands es p need y) → Stands es p need (if b then x else y)
+stands_if es p need true x y hit miss = hit refl
+stands_if es p need false x y hit miss = miss refl
+
 -- entries by number
 
 pub get_left : {A : Type 0} (xs ys : List A) (k : ℕ) (x : A) → slice_get xs k ≡ Some x → slice_get (xs ++ ys) k ≡ Some x
@@ -112,18 +118,14 @@ issues_right c need entry right can =
     record {
       sound = right.sound;
       stands = λ other.
-          picked (is_need need other) (awaits n) (c.rows other)
-          (λ hit is.
-          subst (Stands more c.plan other) (sym is)
-          (record {
+          stands_if more c.plan other (is_need need other) (awaits n) (c.rows other)
+          (λ hit. record {
             entry = entry;
             there = get_last c.entries entry;
             gives = ap (wanted c.plan) (sym (need_is need other hit))
                 ∙ entry_gives c.plan (arrival_in c) need entry right.sound (known_arrives c right) can.own;
-          }))
-          (λ miss is.
-          subst (Stands more c.plan other) (sym is)
-          (stands_more c.entries entry c.plan other (c.rows other) (right.stands other)));
+          })
+          (λ miss. stands_more c.entries entry c.plan other (c.rows other) (right.stands other));
       once = λ a b k out other.
           grind (
             arith,
@@ -152,13 +154,9 @@ gives_found c need k n value_is same true_one h = grind arith
 
 collects_row : (c : Core) (need : Need) (answer : Answer) (s : Row) → IsTrueAnswer c.entries answer
     → Stands c.entries c.plan need s → Stands c.entries c.plan need (answered answer s)
-collects_row c need answer (awaits n) true_one stands =
-    picked (n == answer.number) (given_by answer.value) (awaits n)
-    (λ hit is.
-    subst (Stands c.entries c.plan need) (sym is)
-    (gives_found c need n answer.number answer.value (true_eq n answer.number hit) true_one stands))
-    (λ miss is. subst (Stands c.entries c.plan need) (sym is) stands)
-collects_row c need answer s true_one stands = stands
+collects_row c need answer s true_one stands =
+    let found = λ (n : ℕ). gives_found c need n answer.number answer.value in
+    grind (arith, nat_tests, found)
 
 pub answered_out : (answer : Answer) (s : Row) (n : ℕ) → answered answer s ≡ awaits n → s ≡ awaits n
 answered_out answer s n out = grind (arith, nat_tests)
@@ -203,10 +201,7 @@ same_comes s t h = λ i. came (h.rule i) (h.from i) (h.cells i) (h.gens i)
 
 pub recalled_out : (need other : Need) (v : Value) (s : Row) (n : ℕ)
     → (if is_need need other then holds v else s) ≡ awaits n → s ≡ awaits n
-recalled_out need other v s n out = by_test (is_need need other) out
-  where
-    by_test : (b : Bool) → (if b then holds v else s) ≡ awaits n → s ≡ awaits n
-    by_test b is = grind arith
+recalled_out need other v s n out = grind arith
 
 pub recalls_right : (c : Core) (mark : Mark) (number : ℕ) (s : Stepping) → IsRight c → CanRecall c mark number s
     → IsRight (after_event c (recalls mark number s))
@@ -214,15 +209,12 @@ recalls_right c mark number s right can =
     let need = step_to mark in
     let found = pattern (world_after s) in
     with_rows c (λ other. if is_need need other then holds found else c.rows other) right
-    (λ other.
-    picked (is_need need other) (holds found) (c.rows other)
-    (λ hit is.
-    subst (Stands c.entries c.plan other) (sym is)
-    (ap (wanted c.plan) (sym (need_is need other hit))
+    (λ other. stands_if c.entries c.plan other (is_need need other) (holds found) (c.rows other)
+    (λ hit. ap (wanted c.plan) (sym (need_is need other hit))
     ∙ ap (λ w. Some (pattern w))
     (sym (same_comes s can.own can.same
-    ∙ step_gives c.plan (arrival_in c) mark can.own right.sound (known_arrives c right) can.is))))
-    (λ miss is. subst (Stands c.entries c.plan other) (sym is) (right.stands other)))
+    ∙ step_gives c.plan (arrival_in c) mark can.own right.sound (known_arrives c right) can.is)))
+    (λ miss. right.stands other))
     (λ other n out. recalled_out need other found (c.rows other) n out)
 
 -- an edit is asked
@@ -252,28 +244,19 @@ kept_stands es p known asked felt (Step branch mark) row sound free arrives from
     let q = (changed p asked).plan in
     let m = mark_at branch mark in
     let need = Step branch mark in
-    let left : Row = if stays_mark felt p q m then row else nothing in
-    picked (is_start m) (holds (pattern q.start)) left
-    (λ hit is.
+    stands_if es q need (is_start m) (holds (pattern q.start)) (if stays_mark felt p q m then row else nothing)
+    (λ hit.
     let parts = and_parts (branch == 0) (mark == 0) hit in
-    subst (Stands es q need) (sym is)
-    (ap₂ (λ b g. wanted q (Step b g)) (true_eq branch 0 parts.0) (true_eq mark 0 parts.1) ∙ start_wanted q))
-    (λ miss is.
-    subst (Stands es q need) (sym is)
-    (picked (stays_mark felt p q m) row nothing
-    (λ on stays.
-    subst (Stands es q need) (sym stays)
-    (same_stands es p q need row (wants_same p known asked felt need sound free arrives from (miss, on)) stands))
-    (λ off gone. subst (Stands es q need) (sym gone) tt)))
+    ap₂ (λ b g. wanted q (Step b g)) (true_eq branch 0 parts.0) (true_eq mark 0 parts.1) ∙ start_wanted q)
+    (λ miss. stands_if es q need (stays_mark felt p q m) row nothing
+    (λ on. same_stands es p q need row (wants_same p known asked felt need sound free arrives from (miss, on)) stands)
+    (λ off. tt))
 kept_stands es p known asked felt (View id) row sound free arrives from stands =
     let q = (changed p asked).plan in
-    picked (keeps p asked felt q (View id)) row nothing
-    (λ on stays.
-    subst (Stands es q (View id)) (sym stays)
-    (same_stands es p q (View id) row
-    (wants_same p known asked felt (View id) sound free arrives from
-    (keeps_there q.branches p asked felt id refl on)) stands))
-    (λ off gone. subst (Stands es q (View id)) (sym gone) tt)
+    stands_if es q (View id) (keeps p asked felt q (View id)) row nothing
+    (λ on. same_stands es p q (View id) row
+    (wants_same p known asked felt (View id) sound free arrives from (keeps_there q.branches p asked felt id refl on))
+    stands) (λ off. tt)
 
 pub kept_out : (p : Plan) (asked : Asked) (felt : Option Mark) (q : Plan) (need : Need) (row : Row) (n : ℕ)
     → kept_row p asked felt q need row ≡ awaits n → row ≡ awaits n
