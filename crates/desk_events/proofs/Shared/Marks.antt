@@ -80,7 +80,8 @@ mark_placed p m sound there =
     placed_later b.branch m.branch b.generation m.generation parts.0 (omega (arith, here)) placed)
     (λ i placed far at.
     let parts = and_parts (i.branch == m.branch) (acts_on i.acts m.generation) at in
-    placed_later i.branch m.branch (first_of i.acts) m.generation parts.0 (acts-from i.acts m.generation parts.1) placed)
+    placed_later i.branch m.branch (first_of i.acts) m.generation parts.0
+    (acts-from i.acts m.generation parts.1) placed)
     there
   where
     placed_later : (b c g h : ℕ) → (b == c) ≡ true → g ≤ h → IsPlaced p.branches b g → IsPlaced p.branches c h
@@ -113,10 +114,12 @@ mark_near p m sound there =
     let near = forked.near in
     omega (arith, here, near))
     (λ b near at.
-    let here = true_eq b.generation m.generation (and_parts (b.branch == m.branch) (b.generation == m.generation) at).1 in
+    let parts = and_parts (b.branch == m.branch) (b.generation == m.generation) at in
+    let here = true_eq b.generation m.generation parts.1 in
     omega (arith, here, near))
     (λ i allowed far at.
-    timely_near i.acts m.generation allowed.timely (and_parts (i.branch == m.branch) (acts_on i.acts m.generation) at).1)
+    timely_near i.acts m.generation allowed.timely
+    (and_parts (i.branch == m.branch) (acts_on i.acts m.generation) at).1)
     there
 
 -- one mark alone comes before another
@@ -147,7 +150,8 @@ before_one p a b m sound h k =
 
     earlier : (p : Plan) (a b m : Mark) → Precedes p a m → Precedes p b m → a.generation < b.generation → ⊥
     earlier p a b m h k less =
-        clash (is_mark p (mark_at m.branch b.generation)) (ap (λ n. is_mark p (mark_at n b.generation)) (sym k.branch) ∙ k.is)
+        clash (is_mark p (mark_at m.branch b.generation))
+        (ap (λ n. is_mark p (mark_at n b.generation)) (sym k.branch) ∙ k.is)
         (h.between b.generation less k.below)
 
     one : (p : Plan) (a b m : Mark) → Precedes p a m → Precedes p b m → a ≡ b

@@ -138,7 +138,8 @@ issues_right c need entry right can =
       few = let long = length-append c.entries (entry ∷ []) in let few = can.few in omega (arith, few, long);
     }
   where
-    newly : (other : Need) (k : ℕ) → (if is_need need other then awaits (length c.entries) else c.rows other) ≡ awaits k
+    newly : (other : Need) (k : ℕ)
+        → (if is_need need other then awaits (length c.entries) else c.rows other) ≡ awaits k
         → ((need ≡ other) × (length c.entries ≡ k)) ⊎ (c.rows other ≡ awaits k)
     newly other k out =
         picked (is_need need other) (awaits (length c.entries)) (c.rows other)

@@ -62,10 +62,12 @@ fork_within : (p : Plan) (x : Branch) (m : Mark) → forks_at x m ≡ true → (
     × ((x.parent == m.branch) ≡ true → x.fork ≤ reach p m.branch) → m.generation ≤ reach p m.branch
 fork_within p x m at k =
     let from = (reach-greatest p m.branch).from_fork in
-    let same : fork_of p.branches x.id ≡ x.fork = ap (λ (o : Option Branch). option_map_or (λ (y : Branch). y.fork) o 0) k.0 in
+    let same : fork_of p.branches x.id ≡ x.fork =
+    ap (λ (o : Option Branch). option_map_or (λ (y : Branch). y.fork) o 0) k.0 in
     by_ids p.branches x m at from same k.1
   where
-    by_ids : (branches : List Branch) (x : Branch) (m : Mark) → forks_at x m ≡ true → fork_of branches m.branch ≤ reach p m.branch
+    by_ids : (branches : List Branch) (x : Branch) (m : Mark) → forks_at x m ≡ true
+        → fork_of branches m.branch ≤ reach p m.branch
         → fork_of branches x.id ≡ x.fork → ((x.parent == m.branch) ≡ true → x.fork ≤ reach p m.branch)
         → m.generation ≤ reach p m.branch
     by_ids branches x m at from same far = grind (arith, nat_tests)
