@@ -13,8 +13,8 @@ of_plan_too plan [] d all is = (is, tt)
 of_plan_too plan (e ∷ es) d all is = (all.0, of_plan_too plan es d all.1 is)
 
 module _ {O : Type 0} (sees : O → BookState → O → Type 0) where
-  pub looked_at : (seen : Bool) (old new : O) (d : BookState) → (seen ≡ true → sees old d new) → (seen ≡ false → new ≡ old)
-      → LooksAt sees old d new
+  pub looked_at : (seen : Bool) (old new : O) (d : BookState) → (seen ≡ true → sees old d new)
+      → (seen ≡ false → new ≡ old) → LooksAt sees old d new
   looked_at seen old new d was wasn = grind arith
 
   looks_too : (ds : List BookState) (d : BookState) (a b c : O) → LooksAtEach sees a ds b → LooksAt sees b d c
@@ -31,8 +31,8 @@ module _ {O : Type 0} (sees : O → BookState → O → Type 0) where
     looks = (new, look, refl);
   }
 
-  pub looks_then : (p q r : PostView) (first d : BookState) (a b c : O) → d.plan ≡ first.plan → LooksOn sees p q first a b
-      → LooksIfAnswered sees q r d b c → LooksOn sees p r first a c
+  pub looks_then : (p q r : PostView) (first d : BookState) (a b c : O) → d.plan ≡ first.plan
+      → LooksOn sees p q first a b → LooksIfAnswered sees q r d b c → LooksOn sees p r first a c
   looks_then p q r first d a b c is on (inl answered) =
       let more = answered.0 in
       let before = on.answers in

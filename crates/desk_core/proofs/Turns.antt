@@ -18,7 +18,8 @@ use Rattle.desk_core.specs.Progress.{Advances, Asks, CancelsAny, Frees, GoesOn, 
 use Rattle.desk_core.specs.Settling.{Ends, Explains, HasCause, IsEnding, IsWhy, SawStop, rows_of}
 use Rattle.desk_core.proofs.Out.{held_out}
 
-pub nears_on : (s mid t : Stage) (next : ControlFlow Unit Unit) → turns_at mid ≤ turns_at s → Nears mid t next → Nears s t next
+pub nears_on : (s mid t : Stage) (next : ControlFlow Unit Unit) → turns_at mid ≤ turns_at s → Nears mid t next
+    → Nears s t next
 nears_on s mid t next h k = grind arith
 
 nearer : (s t : Stage) (next : ControlFlow Unit Unit) → next ≡ Continue tt → t.post.held ≡ None
@@ -66,8 +67,14 @@ pub turns-spent : (s : Stage) (counter turns : ℕ) → turns ≤ counter
     → IsAtHand (job_in s.progress.unsent) s.post.held s.desk → turns_at s + counter ≤ turns
     → (s.progress.unsent ≡ Nothing) × IsDone s.desk
 turns-spent s counter turns spent at_hand h =
-    let left = nothing_left s.progress.unsent s.post.held (omega arith) in
-    (left.0, inr (λ need. nowhere s.progress.unsent s.post.held (expected s.desk need) left (at_hand need), omega arith))
+    let left = nothing_left s.progress.unsent s.post.held (omega arith) in (
+      left.0,
+      inr (
+        λ need.
+            nowhere s.progress.unsent s.post.held (expected s.desk need) left (at_hand need),
+        omega arith,
+      ),
+    )
   where
     nowhere : (unsent : Unsent) (held job : Option Job) → (unsent ≡ Nothing) × (held ≡ None)
         → ((out : Job) → job ≡ Some out → (job_in unsent ≡ Some out) ⊎ (held ≡ Some out)) → job ≡ None

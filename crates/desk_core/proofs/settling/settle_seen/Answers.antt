@@ -24,7 +24,8 @@ returns-clause-ends g c =
       gave = told.gave;
       ends = ends-so c.args.turns p q c.args.desk.now c.cancel.new.desk told.later c.pending.result run.result.cause _
           c.ending.ensures c.pending.ensures.count c.pending.ensures.bound
-          (λ some. why-left c.args.turns c.args.desk.now run.new.desk c.cancel.new.desk p q run.result c.pending.result told.later
+          (λ some. why-left c.args.turns c.args.desk.now run.new.desk c.cancel.new.desk p q run.result
+          c.pending.result told.later
           run.ensures.ended c.cancel.ensures c.pending.ensures.count some told.explained told.stopped);
     }
 

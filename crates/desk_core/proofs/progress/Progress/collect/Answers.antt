@@ -35,7 +35,8 @@ returns-in_default c = record {
   goes = λ p q receives.
       GoesOn-answered c.args.desk.now c.collect.new.self p q c.args.self.now c.args.self.now c.args.answer receives
       c.collect.ensures.fills c.collect.ensures.book refl (same_cause c.args.self.now.cause)
-      (tells-answered c.args.desk.now c.collect.new.self p q c.args.self.now c.args.answer receives c.collect.ensures.book);
+      (tells-answered c.args.desk.now c.collect.new.self p q c.args.self.now c.args.answer receives
+      c.collect.ensures.book);
   same = λ none. refl;
   wanting = λ none.
       wanting-collected c.args.desk.now c.collect.new.self c.args.answer c.collect.result c.in_default.not-Released
