@@ -10,7 +10,7 @@ use Rattle.dependency_book.specs.Held.{IsHeld}
 use Rattle.desk_events.specs.Marks.{ComesBefore, bookmark_mark}
 use Rattle.dependency_book.specs.Needs.{IsLedTo, ViewIsNext}
 use Rattle.dependency_book.specs.Ready.{AreHeldBack, before_row, is_ready}
-use Rattle.dependency_book.specs.RowState.{is_known, known}
+use Rattle.dependency_book.specs.RowState.{is_known}
 use Rattle.dependency_book.specs.Rows.{ArrivalRow, TextRow}
 use Rattle.dependency_book.proofs.Placed.{bookmark_row, mark_of, mark_row, place_of_mark, row_comes, row_follows, row_stands, text_at}
 use Rattle.desk_events.proofs.Shared.Marks.{before_one}
@@ -48,11 +48,6 @@ module _ {d : BookState} {places : List ℕ} (held : IsHeld d places) where
             led.comes (comes x)) at led.arrived;
       }
 
-  -- what is known at a row's mark
-  pub row_known : (k : ℕ) (x : ArrivalRow) → k < length d.arrivals
-      → arrival_known d (mark_of d.arrivals k x) ≡ known (get_or d.arrivals k x).state
-  row_known k x low = ap known (row_stands held k x low)
-
   -- no step leads to a row that waits for the row before it
   pub held_back : AreHeldBack d.plan.branches d.arrivals
   held_back zero x low waiting = absurd cc
@@ -62,7 +57,7 @@ module _ {d : BookState} {places : List ℕ} (held : IsHeld d places) where
       let parts = and_parts (before.key.branch == own) (not (is_known before.state)) waiting in
       rw (row_follows held j x low (true_eq before.key.branch own parts.0))
       (ready_is d before.key
-      ∙ ap is_some (row_known j x (omega (arith, low)))
+      ∙ ap is_known (row_stands held j x (omega (arith, low)))
       ∙ grind (arith, parts.1))
 
   -- the bookmark of a view is the one that can be viewed

@@ -174,7 +174,8 @@ edited_core d asked felt e free after keeps =
     let was = λ (need : Need). plain_row (row_of d need) in
     same_core e.plan q e.entries d.entries (λ need. plain_row (row_of e need))
     (λ need. kept_row d.plan asked felt q need (was need)) after keeps.entries
-    (λ need. kept_core asked felt d e keeps need ∙ ap (λ p. kept_row d.plan asked felt p need (was need)) after)
+    (λ need. kept_core asked felt d e keeps need
+    ∙ ap (λ p. kept_row d.plan asked felt p need (was need)) after)
     ∙ sym (ap (λ o. core_after_edit (core_of d) asked felt (unless_refused o (changed d.plan asked))) free)
 
 felt_core : (d : BookState) (asked : Asked) (felt : Option Mark) (q : Plan)

@@ -194,8 +194,8 @@ kept_refused {d} {places} kept =
       facts = kept.facts;
     }
 
--- what stands in a row where the job of a number is out, at a place, for the row of one need: that job in this
--- row, and none of the number in others
+-- what stands in a row where the job of a number is out, at a place, for the row of one need: that job in
+-- this row, and none of the number in others
 abbrev OutIf : Bool → ℕ → Place → RowState Value → Type 0
 OutIf here n place s =
     ((here ≡ true) × (s ≡ Expected (record { number = n; place = place })))
