@@ -229,7 +229,7 @@ held-none rows t n f counts times =
     let w : ℕ → ℕ = λ j. tally f (row_square rows j) in
     let first : sum_to (by t.counts f) 256 ≡ 0 = ap (λ (xs : List ℕ). sum_to (by xs f) 256) counts ∙ sum-replicate f 256 256 (omega arith) in
     let second : sum_to (by t.times.items w) (length t.times.items) ≡ 0 =
-    ap (λ (xs : List ℕ). sum_to (by xs w) (length xs)) times ∙ sum-replicate w n (length (replicate n 0)) (omega (arith, length-replicate {A = ℕ} n 0)) in
+    grind (arith, sum-replicate, length-replicate) in
     omega arith
 
 root-few : (rows : List SquareRow) → AreRows rows → tally is_any (root_of rows) ≤ 2 ^ 124

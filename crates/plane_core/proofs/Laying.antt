@@ -82,10 +82,7 @@ laid-more p cs c old new q one is at there laid =
     let unit : 2 ^ (p.level - 1) ≡ 1 = ap (λ k. 2 ^ (k - 1)) one in
     record {
       count = length-set new q c.state ∙ laid.count;
-      small = λ r few. elim (cases_eq r q) [
-        | inl same ↦ omega (arith, set r same, is.1)
-        | inr other ↦ omega (arith, get_or-set_other new q r c.state 0 other, laid.small r few)
-      ];
+      small = grind (arith, cases_eq, get_or-set_other);
       each = λ w states r few.
           let part = quadrant_of p r 0 in
           let own : Covers part part.corner.x part.corner.y = record { left = omega (arith, ints); right = omega (arith, ints); top = omega (arith, ints); bottom = omega (arith, ints) } in

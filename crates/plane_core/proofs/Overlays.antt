@@ -18,21 +18,12 @@ Overlays u v w = (x y : ℤ) → ((cell u x y ≡ cell v x y) × (cell w x y ≡
 pub greatest-overlay : (u v w : World) (a b : ℕ) → Overlays u v w → IsGreatest v a → IsGreatest w b → IsGreatest u (max a b)
 greatest-overlay u v w a b over ha hb = record {
   least = λ n below.
-      let of_v : AllBelow n v = λ x y. elim (over x y) [
-        | inl h ↦ let e = h.0 in let at = below x y in omega arith
-        | inr h ↦ let e = h.1 in let at = below x y in omega arith
-      ] in
-      let of_w : AllBelow n w = λ x y. elim (over x y) [
-        | inl h ↦ let e = h.1 in let at = below x y in omega arith
-        | inr h ↦ let e = h.0 in let at = below x y in omega arith
-      ] in
+      let of_v : AllBelow n v = grind (arith) in
+      let of_w : AllBelow n w = grind (arith) in
       let la : a < n = ha.least n of_v in
       let lb : b < n = hb.least n of_w in
       omega arith;
-  above = λ x y. elim (over x y) [
-    | inl h ↦ let e = h.0 in let at : cell v x y < a + 1 = ha.above x y in omega arith
-    | inr h ↦ let e = h.0 in let at : cell w x y < b + 1 = hb.above x y in omega arith
-  ];
+  above = grind (arith);
 }
 
 by_min : (P : ℤ → Type 0) (x y : ℤ) → P x → P y → P (int_min x y)

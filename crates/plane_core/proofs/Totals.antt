@@ -104,9 +104,7 @@ puts_free k nw ne sw l t w is_nw is_ne is_sw free =
     let parts = free_parts k l t w free in
     record {
       ne = still_free k nw l t r t w is_nw (λ x y h g. apart_x n l t r t x y refl g h) parts.ne;
-      sw =
-          still_free k ne r t l b _ is_ne (λ x y h g. apart_y n r t l b x y refl g h)
-          (still_free k nw l t l b w is_nw (λ x y h g. apart_y n l t l b x y refl g h) parts.sw);
+      sw = grind (arith, still_free, apart_y);
       se =
           still_free k sw l b r b _ is_sw (λ x y h g. apart_x n l b r b x y refl g h)
           (still_free k ne r t r b _ is_ne (λ x y h g. apart_y n r t r b x y refl g h)

@@ -1,5 +1,5 @@
 -- Rows that come behind others, and the root of one level more.
-use Rattle.std.proofs.Common.{◌≡◌, ℕ, zero, suc, ◌+◌, ◌-◌, ◌<◌, ◌≤◌, ◌^◌, List, [], ◌∷◌, ◌++◌, length, get_or, slice_set, refl, sym, ◌∙◌, subst, arith, Result}
+use Rattle.std.proofs.Common.{◌≡◌, ℕ, zero, suc, ◌+◌, ◌-◌, ◌<◌, ◌≤◌, ◌^◌, List, [], ◌∷◌, ◌++◌, length, get_or, slice_set, refl, sym, subst, arith, Result}
 use Rattle.std.specs.Prelude.{IfOk}
 use Rattle.std.proofs.lemmas.Result.{IfOk-weaker}
 use Rattle.std.proofs.lemmas.List.{length_push, get_or_push}
@@ -64,9 +64,7 @@ zeros rows k q h = grind (arith, zero-IsNumber)
 pub quadrants-none : (rows : List SquareRow) (k : ℕ) → AreQuadrants rows k 0 (0 ∷ 0 ∷ 0 ∷ 0 ∷ [])
 quadrants-none rows k = record {
   numbers = zeros rows k;
-  square =
-      square_in-none rows (suc k) ∙ empty_square-quadrants k
-      ∙ (let e = sym (square_in-none rows k) in λ i. four (e i) (e i) (e i) (e i));
+  square = grind (arith, square_in-none, empty_square-quadrants);
 }
 
 -- the quadrants of another

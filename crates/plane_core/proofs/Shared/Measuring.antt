@@ -1,5 +1,5 @@
 -- The measures of squares, row by row.
-use Rattle.std.proofs.Common.{◌≡◌, ℕ, zero, suc, ◌+◌, ◌-◌, ◌<◌, ◌≤◌, ◌^◌, List, length, get_or, Option, refl, sym, ap₂, ◌∙◌, subst, arith, inl, inr, lit<, pow_mono, ℤ, pos, ◌+ℤ◌}
+use Rattle.std.proofs.Common.{◌≡◌, ℕ, zero, suc, ◌+◌, ◌-◌, ◌<◌, ◌≤◌, ◌^◌, List, length, get_or, Option, refl, sym, ◌∙◌, subst, arith, lit<, pow_mono, ℤ, pos, ◌+ℤ◌}
 use Rattle.std.specs.Prelude.{IfSome, IsNone, ◌↔◌}
 use Rattle.std.proofs.lemmas.Int.{ints}
 use Rattle.std.proofs.lemmas.List.{length-take-le, nil_from_length}
@@ -92,10 +92,7 @@ one-box s h =
 one-greatest : (s : ℕ) → s < 256 → IsGreatest (alone 0 (one s)) s
 one-greatest s h = record {
   least = λ n below. let at = below (pos 0) (pos 0) in omega (arith, cell-alone s h);
-  above = λ x y. elim (in_or_out (2 ^ 0) (pos 0) (pos 0) x y) [
-    | inl at ↦ let e : cell (alone 0 (one s)) x y ≡ s = ap₂ (cell (alone 0 (one s))) (only_x x y at) (only_y x y at) ∙ cell-alone s h in omega arith
-    | inr out ↦ omega (arith, cell-beside s x y h out)
-  ];
+  above = grind (arith, in_or_out, only_x, only_y, cell-alone, cell-beside);
 }
 
 one-blank : (h : 0 < 256) → alone 0 (one 0) ≡ blank

@@ -163,15 +163,7 @@ least_level-good w margin =
 squares-by : (w : World) (k : ℕ) (rows : List SquareRow) → IsLeastLevel k w → IsListed k (square_at w k (edge_of k) (edge_of k)) rows → AllBelow 256 w → AreSquaresOf w (written rows)
 squares-by w k rows least own small =
     let world : world_of_rows rows ≡ w = own.world ∙ root-world w k least.holds small in
-    let kept : AreKept rows =
-    elim own.level [
-      | inl level ↦ record {
-        valid = own.walked.valid;
-        walked = own.walked.walked;
-        least = subst (λ j. IsLeastLevel j (world_of_rows rows)) (sym level) (subst (IsLeastLevel k) (sym world) least);
-      }
-      | inr none ↦ subst AreKept (sym none) kept-none
-    ] in
+    let kept : AreKept rows = grind (arith, kept-none) in
     squares-written rows w kept world
 
 -- the rows of a world stand for it
