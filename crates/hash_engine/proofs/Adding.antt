@@ -13,10 +13,6 @@ use Rattle.hash_engine.specs.Standing.{StandsFor}
 use Rattle.hash_engine.specs.Adding.{AddsFours}
 use Rattle.hash_engine.proofs.Standing.{StandForAll-grows, StandsFor-between, StandsFor-amid, StandsFor-middle, StandsFor-of_nine, quadrants, listed, fours_at}
 
--- nothing is added
-pub Adds-none : (made : List Square) (t : Table) → Adds made t t
-Adds-none made t = record { grows = Grows-same t; among = λ all listed are. are }
-
 -- the square that is joined, and no other
 pub Adds-made : (t u : Table) (kids : List ℕ) (k : ℕ) (s : Square) → Grows t u → GrowsBy kids t u → ((n : ℕ) → IsSquareOf u.rows kids n → StandsFor u.rows (suc k) n s) → Adds (s ∷ []) t u
 Adds-made t u kids k s grows step stands =

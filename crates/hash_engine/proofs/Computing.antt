@@ -25,8 +25,11 @@ use Rattle.hash_engine.proofs.Putting.{Asks-grown, Asks-then, Asks-next, IsPut-g
 use Rattle.hash_engine.proofs.Finding.{made_of, adds_result, IsFound-then, StandForAll-found, by_number, by_square}
 
 -- a square s of level k + 2 with this number, above level 2
-module _ {next : List ℕ → ℕ} {c : ℕ} {t : Table} {memo : Memo} {k ahead number first : ℕ}
-    (can : CanCompute next c t memo k ahead number) (is_first : first ≡ min ahead (2 ^ (k - 1))) where
+module _ {next : List ℕ → ℕ} {c : ℕ} {t : Table} {memo : Memo} {k ahead number first half : ℕ}
+    (can : CanCompute next c t memo k ahead number) (is_min : first ≡ min ahead half) (is_half : half ≡ 2 ^ (k - 1)) where
+  is_first : first ≡ min ahead (2 ^ (k - 1))
+  is_first = is_min ∙ ap (min ahead) is_half
+
   abbrev s : Square
   s = sought t k number
 

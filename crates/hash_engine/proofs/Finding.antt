@@ -1,5 +1,5 @@
 -- How a result is found.
-use Rattle.std.proofs.Common.{◌≡◌, ℕ, suc, ◌<◌, List, [], ◌∷◌, length, map, get_or, sym, ◌∙◌, ap, subst, arith}
+use Rattle.std.proofs.Common.{◌≡◌, ℕ, suc, ◌<◌, List, [], ◌∷◌, length, map, get_or, sym, ◌∙◌, subst, arith}
 use Rattle.std.specs.Prelude.{All, Contains}
 use Rattle.std.proofs.lemmas.List.{length-map, get_or-map}
 use Rattle.std.proofs.lemmas.List.Elements.{All-nil, All-cons}
@@ -67,13 +67,9 @@ pub IsFound-then : {next : List ℕ → ℕ} {Counted Also : Type 0} {k generati
     Grows u v → (Also → Counted) → (Also → (q : Square) → IsPut u.rows memo.full.items q → IsPut v.rows more.full.items q) →
     IsFound next Counted k generations s u memo n → IsFound next Also k generations s v more n
 IsFound-then {next} {Counted} {Also} {k} {generations} {n} {s} {u} {v} {memo} {more} grows counts kept is =
-    grind (
-      arith,
-      StandsFor-grows u v (suc k) n,
-      Makes-weaker next k generations s (IsMade u.rows) (IsMade v.rows),
-      IsMade-grows u v,
-      Puts-weaker next k generations s (IsPut u.rows memo.full.items) (IsPut v.rows more.full.items),
-    )
+    let makes = Makes-weaker next k generations s (IsMade u.rows) (IsMade v.rows) in
+    let puts = Puts-weaker next k generations s (IsPut u.rows memo.full.items) (IsPut v.rows more.full.items) in
+    grind (arith, StandsFor-grows u v (suc k) n, IsMade-grows u v, makes, puts)
 
 -- what is found is the result of the square in the table that it's found in
 pub IsResult-found : {next : List ℕ → ℕ} {Counted : Type 0} {k generations n r : ℕ} {t u : Table} {memo : Memo} →

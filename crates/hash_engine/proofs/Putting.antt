@@ -1,5 +1,5 @@
 -- What is put to the rule in a search, step by step.
-use Rattle.std.proofs.Common.{◌≡◌, ℕ, zero, suc, ◌+◌, ◌-◌, ◌*◌, ◌<◌, ◌≤◌, ◌^◌, List, length, get_or, sym, ◌∙◌, ap, subst, arith, inl, inr}
+use Rattle.std.proofs.Common.{◌≡◌, ℕ, suc, ◌+◌, ◌-◌, ◌*◌, ◌<◌, ◌≤◌, ◌^◌, List, length, get_or, sym, ◌∙◌, ap, subst, arith, inl, inr}
 use Rattle.std.specs.Prelude.{Contains, ◌≢◌, ◌⊎◌}
 use Rattle.std.proofs.lemmas.Bool.{cases_eq}
 use Rattle.worlds.specs.Square.{Square}
@@ -109,15 +109,9 @@ module _ (u : Table) {k generations n r : ℕ} {old new : Memo} (number : IsNumb
         ((i : ℕ) → (get_or more i 0 ≡ get_or known i 0) ⊎ ((i ≡ n - first_number) × (generations ≡ count k))) →
         ArePut next count u.rows old.full.items known → ArePut next count u.rows new.full.items more
     ArePut-noted count known more either are i l there at few =
-        grind (
-          arith,
-          either i,
-          are i l,
-          put_still,
-          place,
-          one_level u.rows (suc (suc k)) (suc (suc l)),
-          Puts-weaker next l (count l) (sought u l (first_number + i)) (IsPut u.rows old.full.items) (IsPut u.rows new.full.items),
-        )
+        let weaker = Puts-weaker next l (count l) (sought u l (first_number + i)) (IsPut u.rows old.full.items) in
+        let level = one_level u.rows (suc (suc k)) (suc (suc l)) in
+        grind (arith, either i, are i l, put_still, place, level, weaker (IsPut u.rows new.full.items))
 
     HasPut-noted : HasPut next u.rows old → HasPut next u.rows new
     HasPut-noted has = record {
@@ -150,15 +144,10 @@ module _ (u : Table) {k generations n r : ℕ} {old new : Memo} (number : IsNumb
 same_put : (u : Table) {k generations n r : ℕ} {old new : Memo} → 0 < k → IsNumber u.rows (suc (suc k)) n →
     IsRemembered k generations n r old new → (i : ℕ) → is_put u.rows new i ≡ is_put u.rows old i
 same_put u {k} {generations} {n} {r} {old} {new} some number is i =
-    grind (
-      arith,
-      cases_eq i (n - first_number),
-      above u.rows (suc k) n number,
-      is_put-more u.rows new (k - 1) i,
-      is_put-more u.rows old (k - 1) i,
-      is_put-agrees,
-      others k generations n r old new i is,
-    )
+    let high = above u.rows (suc k) n number in
+    let apart = others k generations n r old new i is in
+    let more = is_put-more u.rows new (k - 1) i in
+    grind (arith, cases_eq i (n - first_number), high, apart, more, is_put-more u.rows old (k - 1) i, is_put-agrees)
 
 pub Asks-higher : {next : List ℕ → ℕ} {Way : (Square → Type 0) → Type 0} {k generations n r a : ℕ} {u : Table} {old new : Memo} →
     0 < k → IsNumber u.rows (suc (suc k)) n → IsRemembered k generations n r old new → 0 < r →

@@ -1,5 +1,5 @@
 -- The square that a search begins with.
-use Rattle.std.proofs.Common.{◌≡◌, ℕ, suc, ◌<◌, List, sym, subst, arith}
+use Rattle.std.proofs.Common.{◌≡◌, ℕ, suc, ◌<◌, List, arith}
 use Rattle.worlds.specs.Square.{Square, one, four}
 use Rattle.square_table.specs.Squares.{IsNumber, square_in}
 use Rattle.hash_life.specs.Puts.{IsBelow}

@@ -1,8 +1,8 @@
 -- Numbers that stand for squares.
-use Rattle.std.proofs.Common.{◌≡◌, ℕ, zero, suc, ◌+◌, ◌<◌, ◌≤◌, List, [], ◌∷◌, length, get_or, refl, sym, ◌∙◌, ap, ap₂, subst, arith, drop, drop-cons, length-drop}
+use Rattle.std.proofs.Common.{◌≡◌, ℕ, zero, suc, ◌+◌, ◌<◌, ◌≤◌, List, [], ◌∷◌, length, get_or, refl, sym, ap, ap₂, subst, arith}
 use Rattle.worlds.specs.Square.{Square, one, four}
-use Rattle.square_table.specs.Squares.{Table, IsNumber, square_in, kids_at, kid_at, first_number, IsSquareOf, Grows, AreNumbers}
-use Rattle.square_table.proofs.Shared.Growth.{AreNumbers-quadrants, IsNumber-grows, square_in-grows, IsNumber-joined, square_in-joined}
+use Rattle.square_table.specs.Squares.{Table, IsNumber, square_in, kids_at, kid_at, first_number, IsSquareOf, Grows}
+use Rattle.square_table.proofs.Shared.Growth.{IsNumber-grows, square_in-grows, IsNumber-joined, square_in-joined}
 use Rattle.hash_life.specs.Result.{between, amid, middle}
 use Rattle.hash_life.specs.Puts.{nine_of, fours_of}
 use Rattle.hash_engine.specs.Standing.{StandsFor, StandForAll}
@@ -15,13 +15,6 @@ above rows k n is = is.0
 pub within : (rows : List (List ℕ)) (k n : ℕ) → IsNumber rows (suc k) n → n < first_number + length rows
 unfolding IsNumber
 within rows k n is = is.1
-
--- it can be asked for its quadrants
-abbrev pub IsThere : List (List ℕ) → ℕ → Type 0
-IsThere rows n = record { above : first_number ≤ n; there : n < first_number + length rows }
-
-pub is_there : (rows : List (List ℕ)) (k n : ℕ) → IsNumber rows (suc k) n → IsThere rows n
-is_there rows k n is = record { above = above rows k n is; there = within rows k n is }
 
 pub StandsFor-itself : (rows : List (List ℕ)) (k n : ℕ) → IsNumber rows k n → StandsFor rows k n (square_in rows k n)
 StandsFor-itself rows k n is = record { numbered = is; square = refl }
@@ -107,23 +100,6 @@ StandsFor-middle t u k m n ks ws xs ys zs s is_k is_w is_x is_y is_z grows is wh
     let o = quadrants t.rows k (get_or ks 3 0) v.d (listed t.rows (suc k) m 3 ks v.d is_k v.se) in
     subst (StandsFor u.rows (suc k) n) (sym (four_middles s v.a v.b v.c v.d p.a p.b p.c p.d q.a q.b q.c q.d r.a r.b r.c r.d o.a o.b o.c o.d v.is p.is q.is r.is o.is))
     (joined_later t u k _ n p.d q.c r.b o.a grows is (listed t.rows k _ 3 ws p.d is_w p.se) (listed t.rows k _ 2 xs q.c is_x q.sw) (listed t.rows k _ 1 ys r.b is_y r.ne) (listed t.rows k _ 0 zs o.a is_z o.nw))
-
--- the numbers of a square's quadrants
-pub quadrant_numbers : (rows : List (List ℕ)) (k n : ℕ) (kids : List ℕ) → kids ≡ kids_at rows n → IsNumber rows (suc k) n → AreNumbers rows k kids
-quadrant_numbers rows k n kids is number = subst (AreNumbers rows k) (sym is) (AreNumbers-quadrants rows k n number)
-
--- from level 2 on these can be asked for theirs
-pub record AreThere (rows : List (List ℕ)) (kids : List ℕ) : Type 0 where
-  pub nw : IsThere rows (get_or kids 0 0)
-  pub ne : IsThere rows (get_or kids 1 0)
-  pub sw : IsThere rows (get_or kids 2 0)
-  pub se : IsThere rows (get_or kids 3 0)
-
-pub are_there : (rows : List (List ℕ)) (n : ℕ) (kids : List ℕ) → kids ≡ kids_at rows n → (k : ℕ) × IsNumber rows (suc (suc k)) n → AreThere rows kids
-are_there rows n kids is number =
-    let k = number.0 in
-    let parts = quadrant_numbers rows (suc k) n kids is number.1 in
-    record { nw = is_there rows k _ parts.nw; ne = is_there rows k _ parts.ne; sw = is_there rows k _ parts.sw; se = is_there rows k _ parts.se }
 
 nil_each : (rows : List (List ℕ)) (k j d : ℕ) (e : Square) → j < 0 → StandsFor rows k (get_or [] j d) (get_or [] j e)
 nil_each rows k j d e below = absurd (omega (arith, below))

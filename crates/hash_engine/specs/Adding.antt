@@ -1,5 +1,5 @@
 -- Squares that are added to a table on the way to results.
-use Rattle.std.specs.Prelude.{ℕ, suc, ◌-◌, List, [], ◌∷◌, Contains}
+use Rattle.std.specs.Prelude.{ℕ, suc, ◌-◌, List, Contains}
 use Rattle.worlds.specs.Square as squares
 use Rattle.square_table.specs.declared.square.Square.{Square}
 use Rattle.square_table.specs.Squares.{Table, square_in, Grows, level_of, cells_of}

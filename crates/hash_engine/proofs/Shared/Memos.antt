@@ -1,14 +1,10 @@
 -- What is remembered stays right, and tells the result of the square that is asked for.
-use Rattle.std.proofs.Common.{◌≡◌, ℕ, suc, ◌+◌, ◌-◌, ◌<◌, ◌≤◌, ◌^◌, List, get_or, sym, subst, arith}
+use Rattle.std.proofs.Common.{◌≡◌, ℕ, suc, ◌+◌, ◌-◌, ◌<◌, ◌≤◌, ◌^◌, List, get_or, arith}
 use Rattle.square_table.specs.Squares.{Table, IsNumber, first_number, Grows}
-use Rattle.square_table.specs.Made.{IsMade}
 use Rattle.square_table.proofs.Shared.Growth.{IsNumber-grows, square_in-grows}
 use Rattle.square_table.proofs.Shared.Making.{IsMade-grows}
 use Rattle.square_table.proofs.Shared.Numbers.{one_level}
-use Rattle.hash_life.specs.Result.{result}
-use Rattle.hash_life.specs.Makes.{Makes}
 use Rattle.hash_life.proofs.Shared.Made.{Makes-weaker}
-use Rattle.hash_engine.specs.Standing.{StandsFor}
 use Rattle.hash_engine.specs.Memo.{IsResult, AreKnown, IsRight}
 use Rattle.hash_engine.specs.declared.memo.Memo.{Memo}
 use Rattle.hash_engine.proofs.Standing.{StandsFor-grows}

@@ -1,6 +1,6 @@
 -- The squares that were put to the rule, where the table grows and where more results are known.
-use Rattle.std.proofs.Common.{◌≡◌, ℕ, zero, suc, ◌+◌, ◌-◌, ◌<◌, ◌≤◌, ◌^◌, List, length, length-append, get_or, sym, ◌∙◌, ap, arith, inl, inr}
-use Rattle.std.specs.Prelude.{◌≢◌, ◌&&◌, Bool, true, false, nat_lt}
+use Rattle.std.proofs.Common.{◌≡◌, ℕ, zero, suc, ◌+◌, ◌-◌, ◌<◌, ◌≤◌, ◌^◌, List, length, length-append, get_or, ◌∙◌, ap, arith}
+use Rattle.std.specs.Prelude.{◌≢◌, true, false}
 use Rattle.std.proofs.lemmas.Bool.{cases_eq, cases_lt, ltb-true, and_parts}
 use Rattle.std.proofs.lemmas.Bool.Decides.{nat_tests}
 use Rattle.square_table.specs.Squares.{Table, IsNumber, first_number, Grows}
@@ -25,14 +25,6 @@ pub is_put-none : (rows : List (List ℕ)) (memo : Memo) (i : ℕ) → get_or me
 unfolding is_put
 is_put-none rows memo i none = grind (arith, nat_tests, none)
 
-pub is_put-by : (rows : List (List ℕ)) (memo : Memo) (i : ℕ) (four known : Bool) → four ≡ is_four rows (first_number + i) → known ≡ nat_lt 0 (get_or memo.full.items i 0) → is_put rows memo i ≡ (four && known)
-unfolding is_put
-is_put-by rows memo i four known is_it is_known = cc
-
-pub is_put-not_four : (rows : List (List ℕ)) (memo : Memo) (i : ℕ) → is_four rows (first_number + i) ≡ false → is_put rows memo i ≡ false
-unfolding is_put
-is_put-not_four rows memo i not_four = cc
-
 pub is_put-two : (rows : List (List ℕ)) (memo : Memo) (i : ℕ) → IsNumber rows 2 (first_number + i) → 0 < get_or memo.full.items i 0 → is_put rows memo i ≡ true
 unfolding is_put
 is_put-two rows memo i number some = let four = is_four-two rows (first_number + i) number in grind (arith, nat_tests, four, some)
@@ -48,11 +40,13 @@ two_of rows (suc k) n number four = let other = is_four-more rows k n number in 
 -- what is put to the rule is a square of level 2
 pub IsNumber-put : (next : List ℕ → ℕ) (rows : List (List ℕ)) (memo : Memo) (i : ℕ) → IsRight next rows memo → is_put rows memo i ≡ true → IsNumber rows 2 (first_number + i)
 unfolding is_put
-IsNumber-put next rows memo i right is = grind (arith, right.full.right, and_parts, ltb-true, two_of)
+IsNumber-put next rows memo i right is =
+    let h = right.full.right i in
+    grind (arith, h, and_parts, ltb-true, two_of)
 
 pub known-put : (rows : List (List ℕ)) (memo : Memo) (i : ℕ) → is_put rows memo i ≡ true → 0 < get_or memo.full.items i 0
 unfolding is_put
-known-put rows memo i is = ltb-true 0 (get_or memo.full.items i 0) (and_parts (is_four rows (first_number + i)) (nat_lt 0 (get_or memo.full.items i 0)) is).1
+known-put rows memo i is = grind (arith, and_parts, ltb-true)
 
 -- a place with no row
 is_put-new : (next : List ℕ → ℕ) (rows more : List (List ℕ)) (memo : Memo) (i : ℕ) → IsRight next rows memo → length rows ≤ i → is_put more memo i ≡ false
@@ -69,7 +63,7 @@ is_put-grows next t u memo i grows right = grind (arith, right.full.right, by_le
 
 pub is_put-agrees : (rows : List (List ℕ)) (old new : Memo) (i : ℕ) → get_or new.full.items i 0 ≡ get_or old.full.items i 0 → is_put rows new i ≡ is_put rows old i
 unfolding is_put
-is_put-agrees rows old new i same = ap (λ r. is_four rows (first_number + i) && nat_lt 0 r) same
+is_put-agrees rows old new i same = cc
 
 -- they are as many in a table that grew
 pub longer : (t u : Table) → Grows t u → length t.rows ≤ length u.rows

@@ -1,9 +1,7 @@
-use Rattle.std.proofs.Common.{◌≡◌, ◌+◌, ◌∙◌, ap, length, sym, arith, ℕ}
-use Rattle.std.specs.Prelude.{true, false}
+use Rattle.std.proofs.Common.{◌+◌, arith, ℕ}
 use Rattle.square_table.specs.Squares.{first_number}
 use Rattle.hash_engine.specs.Asked.{is_four, is_put, picked, places_of_four, places_put}
 use Rattle.hash_engine.proofs.Picked.{count-passed, count-failed}
-use Rattle.hash_engine.proofs.Shared.Puts.{is_put-by, is_put-not_four}
 use Rattle.hash_engine.proofs.counts.count_squares.Goals as goal
 use Rattle.hash_engine.proofs.counts.count_squares.Goals.{then-is_four+then-has_full, then-is_four+else-has_full, else-is_four}
 

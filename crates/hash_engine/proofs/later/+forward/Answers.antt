@@ -1,5 +1,5 @@
-use Rattle.std.proofs.Common.{◌≡◌, ◌<◌, suc, ◌+◌, ◌-◌, min, get_or, ◌∙◌, ap, arith, rules}
-use Rattle.hash_engine.specs.Search.{CanSeek, CanSeekAll, sought}
+use Rattle.std.proofs.Common.{◌<◌, suc, ◌-◌, ◌∙◌, arith, rules}
+use Rattle.hash_engine.specs.Search.{CanSeekAll, sought}
 use Rattle.hash_engine.proofs.Standing.{above, StandsFor-itself}
 use Rattle.hash_engine.proofs.Keeping.{Keeps-made, Keeps-noted}
 use Rattle.hash_engine.proofs.Finding.{adds_result, middle_result, IsFound-none, IsResult-found, found_still, asks_still}
@@ -9,12 +9,7 @@ use Rattle.hash_engine.proofs.Computing.{nine_keeps, nine_can, first_keeps, four
 use Rattle.hash_engine.proofs.later.+forward.Goals as goal
 
 pub all_forward-forward-requires : goal.all_forward-forward-requires
-all_forward-forward-requires g t c κs within =
-    let was = c.loop-number.invariant in
-    let can : CanSeek (g.Q.Ask.meaning c.loop-number.rule) (g.Q.Ask.state_count c.loop-number.rule) c.loop-number.table
-    c.loop-number.memo c.args.k c.args.ahead (get_or c.loop-number.numbers c.loop-number.number-index 0) =
-    turn_can c.requires c.loop-number-test.true was.keeps was.done in
-    search rules
+all_forward-forward-requires g t c κs within = search (rules, turn_can)
 
 pub all_forward-loop-number-preserved : goal.all_forward-loop-number-preserved
 all_forward-loop-number-preserved g t c =
@@ -29,97 +24,87 @@ all_forward-loop-number-preserved g t c =
     }
 
 pub all_forward-returns-in_err-number-clause-keeps : goal.all_forward-returns-in_err-number-clause-keeps
-all_forward-returns-in_err-number-clause-keeps g t c =
-    let was = c.loop-number.invariant in
-    turn_keeps c.requires c.loop-number-test.true was.keeps was.done c.forward.ensures.keeps
+all_forward-returns-in_err-number-clause-keeps g t c = search (rules, turn_keeps)
 
 pub all_forward-returns-clause-found : goal.all_forward-returns-clause-found
-all_forward-returns-clause-found g t c = AreDone-all c.loop-number.invariant.done c.loop-number-test.false
+all_forward-returns-clause-found g t c = search (rules, AreDone-all)
 
 pub compute-returns-in_err-nine-clause-keeps : goal.compute-returns-in_err-nine-clause-keeps
-compute-returns-in_err-nine-clause-keeps g t c =
-    let first = c.min-first.ensures ∙ ap (min c.args.ahead) c.full.ensures in
-    nine_keeps c.requires first c.nine.ensures.grows c.nine.ensures.adds
+compute-returns-in_err-nine-clause-keeps g t c = search (rules, nine_keeps)
 
 pub compute-all_forward-requires : goal.compute-all_forward-requires
 compute-all_forward-requires g t c κs within =
-    let first = c.min-first.ensures ∙ ap (min c.args.ahead) c.full.ensures in
     let nine = c.in_ok-nine.ensures in
-    let can : CanSeekAll (g.Q.Ask.meaning c.args.rule.now) (g.Q.Ask.state_count c.args.rule.now) c.nine.new.table c.args.memo.now
-    (c.args.k - 1) c.min-first.result c.in_ok-nine.nine = nine_can c.requires first nine.grows nine.adds nine.squares in
+    let can : CanSeekAll (g.Q.Ask.meaning c.args.rule.now) (g.Q.Ask.state_count c.args.rule.now)
+    c.nine.new.table c.args.memo.now
+    (c.args.k - 1) c.min-first.result c.in_ok-nine.nine = nine_can c.requires c.min-first.ensures
+    c.full.ensures nine.grows nine.adds nine.squares in
     search rules
 
 pub compute-returns-in_err-all_forward-clause-keeps : goal.compute-returns-in_err-all_forward-clause-keeps
 compute-returns-in_err-all_forward-clause-keeps g t c =
-    let first = c.min-first.ensures ∙ ap (min c.args.ahead) c.full.ensures in
     let nine = c.in_ok-nine.ensures in
-    first_keeps c.requires first nine.grows nine.adds nine.squares c.all_forward.ensures.keeps
+    first_keeps c.requires c.min-first.ensures c.full.ensures nine.grows nine.adds nine.squares
+    c.all_forward.ensures.keeps
 
 pub compute-returns-in_err-fours-clause-keeps : goal.compute-returns-in_err-fours-clause-keeps
 compute-returns-in_err-fours-clause-keeps g t c =
-    let first = c.min-first.ensures ∙ ap (min c.args.ahead) c.full.ensures in
     let nine = c.in_ok-nine.ensures in
     let one = c.in_ok-all_forward.ensures in
-    fours_keeps c.requires first nine.grows nine.adds nine.squares one.keeps one.found c.fours.ensures.grows c.fours.ensures.adds
+    fours_keeps c.requires c.min-first.ensures c.full.ensures nine.grows nine.adds nine.squares one.keeps
+    one.found c.fours.ensures.grows c.fours.ensures.adds
 
 pub compute-all_forward-requires-2 : goal.compute-all_forward-requires-2
 compute-all_forward-requires-2 g t c κs within =
-    let first = c.min-first.ensures ∙ ap (min c.args.ahead) c.full.ensures in
     let nine = c.in_ok-nine.ensures in
     let one = c.in_ok-all_forward.ensures in
     let four = c.in_ok-fours.ensures in
-    let can : CanSeekAll (g.Q.Ask.meaning c.all_forward.new.rule) (g.Q.Ask.state_count c.all_forward.new.rule) c.fours.new.table
+    let can : CanSeekAll (g.Q.Ask.meaning c.all_forward.new.rule) (g.Q.Ask.state_count c.all_forward.new.rule)
+    c.fours.new.table
     c.all_forward.new.memo (c.args.k - 1) (c.args.ahead - c.min-first.result) c.in_ok-fours.fours =
-    fours_can c.requires first nine.grows nine.adds nine.squares one.keeps one.found four.grows four.adds four.squares in
+    fours_can c.requires c.min-first.ensures c.full.ensures nine.grows nine.adds nine.squares one.keeps
+    one.found four.grows four.adds four.squares in
     search rules
 
 pub compute-returns-in_err-all_forward-2-clause-keeps : goal.compute-returns-in_err-all_forward-2-clause-keeps
 compute-returns-in_err-all_forward-2-clause-keeps g t c =
-    let first = c.min-first.ensures ∙ ap (min c.args.ahead) c.full.ensures in
     let nine = c.in_ok-nine.ensures in
     let one = c.in_ok-all_forward.ensures in
     let four = c.in_ok-fours.ensures in
-    last_keeps c.requires first nine.grows nine.adds nine.squares one.keeps one.found four.grows four.adds four.squares
+    last_keeps c.requires c.min-first.ensures c.full.ensures nine.grows nine.adds nine.squares one.keeps
+    one.found four.grows four.adds four.squares
     c.all_forward-2.ensures.keeps
 
 pub compute-returns-in_err-all_forward-2-clause-end : goal.compute-returns-in_err-all_forward-2-clause-end
-compute-returns-in_err-all_forward-2-clause-end g t c =
-    let same : g.S.Stop.yes_count c.all_forward.new.stop ≡ g.S.Stop.yes_count c.args.stop.now =
-    c.in_ok-all_forward.ensures.end.stop.went_on (λ e. search rules) in
-    let two = c.in_err-all_forward-2.ensures.end in
-    record {
-      stop = record {
-        stopped = λ e. two.stop.stopped (search rules) ∙ ap (λ n. n + 1) same;
-        went_on = λ on. two.stop.went_on (λ e. on (search rules)) ∙ same;
-      };
-      full = λ e. two.full (search rules);
-    }
+compute-returns-in_err-all_forward-2-clause-end g t c = grind arith
 
 pub compute-returns-in_err-join_numbers-clause-keeps : goal.compute-returns-in_err-join_numbers-clause-keeps
 compute-returns-in_err-join_numbers-clause-keeps g t c =
-    let first = c.min-first.ensures ∙ ap (min c.args.ahead) c.full.ensures in
     let nine = c.in_ok-nine.ensures in
     let one = c.in_ok-all_forward.ensures in
     let four = c.in_ok-fours.ensures in
     let two = c.in_ok-all_forward-2.ensures in
-    joined_keeps c.requires first nine.grows nine.adds nine.squares one.keeps one.found four.grows four.adds four.squares
+    joined_keeps c.requires c.min-first.ensures c.full.ensures nine.grows nine.adds nine.squares one.keeps
+    one.found four.grows four.adds four.squares
     two.keeps two.found c.join_numbers.ensures.grows c.join_numbers.ensures.one
 
 pub compute-returns : goal.compute-returns
 compute-returns g t c =
-    let first = c.min-first.ensures ∙ ap (min c.args.ahead) c.full.ensures in
     let nine = c.in_ok-nine.ensures in
     let one = c.in_ok-all_forward.ensures in
     let four = c.in_ok-fours.ensures in
     let two = c.in_ok-all_forward-2.ensures in
     let join = c.in_ok-join_numbers.ensures in
     record {
-      keeps = joined_keeps c.requires first nine.grows nine.adds nine.squares one.keeps one.found four.grows four.adds
+      keeps = joined_keeps c.requires c.min-first.ensures c.full.ensures nine.grows nine.adds nine.squares
+          one.keeps one.found four.grows four.adds
           four.squares two.keeps two.found join.grows join.one;
       end = search rules;
-      found = joined_finds c.requires first nine.grows nine.adds nine.squares one.keeps one.found four.grows four.adds
+      found = joined_finds c.requires c.min-first.ensures c.full.ensures nine.grows nine.adds nine.squares
+          one.keeps one.found four.grows four.adds
           four.squares two.keeps two.found join.grows one.asks two.asks _ join.square;
-      asks = joined_asks c.requires first nine.grows nine.adds nine.squares one.keeps one.found four.grows four.adds
+      asks = joined_asks c.requires c.min-first.ensures c.full.ensures nine.grows nine.adds nine.squares
+          one.keeps one.found four.grows four.adds
           four.squares two.keeps two.found join.grows one.asks two.asks;
     }
 

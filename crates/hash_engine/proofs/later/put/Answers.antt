@@ -34,8 +34,7 @@ asked n {next} {new} {c} {d} {ahead} {t} {u} {memo} some rule adds right = recor
 }
 
 pub returns-in_err-made-clause-keeps : goal.returns-in_err-made-clause-keeps
-returns-in_err-made-clause-keeps g c =
-    asked c.args.number c.requires.some c.later.ensures.rule c.later.ensures.adds c.requires.anew.right
+returns-in_err-made-clause-keeps g c = search (rules, asked)
 
 pub remember-requires-clause-number : goal.remember-requires-clause-number
 remember-requires-clause-number g c = above c.args.table.now.rows 1 c.args.number c.requires.ready.numbered

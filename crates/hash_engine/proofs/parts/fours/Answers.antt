@@ -22,12 +22,6 @@ returns-clause-squares c = λ k ss are.
     (StandsFor-of_nine _ _ all k _ c.args.nine ss 3 4 6 7 count (lit< tt) (lit< tt) (lit< tt) (lit< tt) are (nw.grows ⟫ ne.grows ⟫ sw.grows) se.grows sw.square)
     (StandsFor-of_nine _ _ all k _ c.args.nine ss 4 5 7 8 count (lit< tt) (lit< tt) (lit< tt) (lit< tt) are (nw.grows ⟫ ne.grows ⟫ sw.grows ⟫ se.grows) (Grows-same all) se.square))
 
-pub returns-in_err-nw-clause-adds : goal.returns-in_err-nw-clause-adds
-returns-in_err-nw-clause-adds c =
-    let count : length c.args.nine ≡ 9 = search rules in
-    Adds-fours c.args.table.now c.join_guessed.new.self c.join_guessed.new.self c.join_guessed.new.self c.join_guessed.new.self c.args.nine count
-    c.join_guessed.ensures.grows c.join_guessed.ensures.one (Grows-same c.join_guessed.new.self) (inl refl) (Grows-same c.join_guessed.new.self) (inl refl) (Grows-same c.join_guessed.new.self) (inl refl)
-
 pub returns-in_err-ne-clause-adds : goal.returns-in_err-ne-clause-adds
 returns-in_err-ne-clause-adds c =
     let count : length c.args.nine ≡ 9 = search rules in
@@ -43,11 +37,9 @@ returns-in_err-sw-clause-adds c =
 pub returns-in_err-se-clause-adds : goal.returns-in_err-se-clause-adds
 returns-in_err-se-clause-adds c =
     let count : length c.args.nine ≡ 9 = search rules in
-    Adds-fours c.args.table.now c.join_guessed.new.self c.join_guessed-2.new.self c.join_guessed-3.new.self c.join_guessed-4.new.self c.args.nine count
-    c.join_guessed.ensures.grows c.join_guessed.ensures.one c.join_guessed-2.ensures.grows c.join_guessed-2.ensures.one c.join_guessed-3.ensures.grows c.join_guessed-3.ensures.one c.join_guessed-4.ensures.grows c.join_guessed-4.ensures.one
+    search (rules, Adds-fours)
 
 pub returns-clause-adds : goal.returns-clause-adds
 returns-clause-adds c =
     let count : length c.args.nine ≡ 9 = search rules in
-    Adds-fours c.args.table.now c.join_guessed.new.self c.join_guessed-2.new.self c.join_guessed-3.new.self c.join_guessed-4.new.self c.args.nine count
-    c.join_guessed.ensures.grows c.join_guessed.ensures.one c.join_guessed-2.ensures.grows c.join_guessed-2.ensures.one c.join_guessed-3.ensures.grows c.join_guessed-3.ensures.one c.join_guessed-4.ensures.grows c.join_guessed-4.ensures.one
+    search (rules, Adds-fours)

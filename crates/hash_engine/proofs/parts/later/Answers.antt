@@ -5,7 +5,6 @@ use Rattle.hash_life.specs.Result.{later}
 use Rattle.hash_life.specs.Puts.{IsBelow}
 use Rattle.hash_engine.specs.Standing.{of_four}
 use Rattle.hash_engine.proofs.Asked.{square_of_sixteen, StandsFor-cells}
-use Rattle.hash_engine.proofs.Standing.{is_there, quadrant_numbers}
 use Rattle.hash_engine.proofs.Adding.{Adds-made}
 use Rattle.hash_engine.proofs.parts.later.Goals as goal
 

@@ -1,6 +1,5 @@
-use Rattle.std.proofs.Common.{suc}
 use Rattle.std.proofs.lemmas.Result.{IfOk-weaker}
-use Rattle.hash_engine.proofs.Standing.{is_there, are_there, StandsFor-middle}
+use Rattle.hash_engine.proofs.Standing.{StandsFor-middle}
 use Rattle.hash_engine.proofs.Adding.{Adds-made}
 use Rattle.hash_engine.proofs.parts.middle.Goals as goal
 

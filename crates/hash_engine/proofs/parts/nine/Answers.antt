@@ -1,7 +1,7 @@
-use Rattle.std.proofs.Common.{refl, suc, inl}
+use Rattle.std.proofs.Common.{refl, inl, rules}
 use Rattle.square_table.proofs.Shared.Growth.{Grows-same}
 use Rattle.hash_engine.proofs.Growth.{◌⟫◌}
-use Rattle.hash_engine.proofs.Standing.{is_there, are_there, StandsFor-between, StandsFor-amid, StandsFor-middle, StandForAll-nine_of}
+use Rattle.hash_engine.proofs.Standing.{StandsFor-between, StandsFor-amid, StandsFor-middle, StandForAll-nine_of}
 use Rattle.hash_engine.proofs.Adding.{Adds-nine}
 use Rattle.hash_engine.proofs.parts.nine.Goals as goal
 
@@ -32,14 +32,6 @@ returns-clause-squares c = λ k s whole.
     (λ a b. StandsFor-amid t _ k _ _ _ _ _ a b xs zs four east.square)
     (λ a b. StandsFor-between t _ k _ _ _ _ _ a b ys zs five south.square)
 
-pub returns-in_err-north-clause-adds : goal.returns-in_err-north-clause-adds
-returns-in_err-north-clause-adds c = λ k s whole.
-    Adds-nine c.args.table.now c.join_guessed.new.self c.join_guessed.new.self c.join_guessed.new.self c.join_guessed.new.self c.join_guessed.new.self
-    k c.args.number _ _ _ _ _ s whole c.quadrants.ensures c.quadrants-2.ensures c.quadrants-3.ensures
-    c.quadrants-4.ensures c.quadrants-5.ensures c.join_guessed.ensures.grows c.join_guessed.ensures.one
-    (Grows-same c.join_guessed.new.self) (inl refl) (Grows-same c.join_guessed.new.self) (inl refl)
-    (Grows-same c.join_guessed.new.self) (inl refl) (Grows-same c.join_guessed.new.self) (inl refl)
-
 pub returns-in_err-west-clause-adds : goal.returns-in_err-west-clause-adds
 returns-in_err-west-clause-adds c = λ k s whole.
     Adds-nine c.args.table.now c.join_guessed.new.self c.join_guessed-2.new.self c.join_guessed-2.new.self c.join_guessed-2.new.self c.join_guessed-2.new.self
@@ -65,20 +57,10 @@ returns-in_err-east-clause-adds c = λ k s whole.
     c.join_guessed-4.ensures.grows c.join_guessed-4.ensures.one (Grows-same c.join_guessed-4.new.self) (inl refl)
 
 pub returns-in_err-south-clause-adds : goal.returns-in_err-south-clause-adds
-returns-in_err-south-clause-adds c = λ k s whole.
-    Adds-nine c.args.table.now c.join_guessed.new.self c.join_guessed-2.new.self c.join_guessed-3.new.self c.join_guessed-4.new.self c.join_guessed-5.new.self
-    k c.args.number _ _ _ _ _ s whole c.quadrants.ensures c.quadrants-2.ensures c.quadrants-3.ensures
-    c.quadrants-4.ensures c.quadrants-5.ensures c.join_guessed.ensures.grows c.join_guessed.ensures.one
-    c.join_guessed-2.ensures.grows c.join_guessed-2.ensures.one c.join_guessed-3.ensures.grows c.join_guessed-3.ensures.one
-    c.join_guessed-4.ensures.grows c.join_guessed-4.ensures.one c.join_guessed-5.ensures.grows c.join_guessed-5.ensures.one
+returns-in_err-south-clause-adds c = λ k s whole. search (rules, Adds-nine)
 
 pub returns-clause-adds : goal.returns-clause-adds
-returns-clause-adds c = λ k s whole.
-    Adds-nine c.args.table.now c.join_guessed.new.self c.join_guessed-2.new.self c.join_guessed-3.new.self c.join_guessed-4.new.self c.join_guessed-5.new.self
-    k c.args.number _ _ _ _ _ s whole c.quadrants.ensures c.quadrants-2.ensures c.quadrants-3.ensures
-    c.quadrants-4.ensures c.quadrants-5.ensures c.join_guessed.ensures.grows c.join_guessed.ensures.one
-    c.join_guessed-2.ensures.grows c.join_guessed-2.ensures.one c.join_guessed-3.ensures.grows c.join_guessed-3.ensures.one
-    c.join_guessed-4.ensures.grows c.join_guessed-4.ensures.one c.join_guessed-5.ensures.grows c.join_guessed-5.ensures.one
+returns-clause-adds c = λ k s whole. search (rules, Adds-nine)
 
 pub returns-clause-grows : goal.returns-clause-grows
 returns-clause-grows c =
