@@ -8,7 +8,7 @@ use Rattle.hash_engine.proofs.Standing.{StandsFor-joined}
 -- two by two cells
 square_of_states : (rows : List (List ℕ)) (n : ℕ) (states : List ℕ) → states ≡ kids_at rows n → square_in rows 1 n ≡ of_four states
 unfolding square_in
-square_of_states rows n states is = ap of_four (sym is)
+square_of_states rows n states is = cc
 
 square_of_quadrants : (rows : List (List ℕ)) (n : ℕ) → square_in rows 2 n ≡
     four (square_in rows 1 (get_or (kids_at rows n) 0 0)) (square_in rows 1 (get_or (kids_at rows n) 1 0)) (square_in rows 1 (get_or (kids_at rows n) 2 0)) (square_in rows 1 (get_or (kids_at rows n) 3 0))

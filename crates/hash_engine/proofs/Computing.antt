@@ -58,17 +58,11 @@ module _ {next : List ℕ → ℕ} {c : ℕ} {t : Table} {memo : Memo} {k ahead 
   can_all : {mid : List ℕ → ℕ} {d m : ℕ} {u : Table} {after : Memo} {numbers : List ℕ} {ss : List Square} →
       IsSameRule next mid c d → IsRight next u.rows after → StandForAll u.rows (suc (suc (k - 1))) numbers ss →
       All (λ q. Puts next (k - 1) m q (IsBelow c)) ss → CanSeekAll mid d u after (k - 1) m numbers
-  can_all {mid} {d} {m} {u} {after} {numbers} {ss} rule right are puts = record {
-    low = omega (arith, can.seek.low);
-    ready =
-        subst (λ f. All (IsReady f d u.rows (k - 1) m) numbers) (sym rule.meaning)
-        (subst (λ n. All (IsReady next n u.rows (k - 1) m) numbers) (sym rule.states)
-        (λ i e below. record {
-          numbered = (are.each i e (one 0) below).numbered;
-          below = by_number are (λ q. Puts next (k - 1) m q (IsBelow c)) puts i e below;
-        }));
-    right = subst (λ f. IsRight f u.rows after) (sym rule.meaning) right;
-  }
+  can_all {mid} {d} {m} {u} {after} {numbers} {ss} rule right are puts =
+      let below = by_number are (λ q. Puts next (k - 1) m q (IsBelow c)) puts in
+      let ready : All (IsReady next c u.rows (k - 1) m) numbers =
+      λ i e low. record { numbered = (are.each i e (one 0) low).numbered; below = below i e low } in
+      grind (arith, ready)
 
   -- the nine
   module _ {a : Table} (ta : Grows t a) (adds : AddsOf nine_of t number a) where
@@ -137,11 +131,10 @@ module _ {next : List ℕ → ℕ} {c : ℕ} {t : Table} {memo : Memo} {k ahead 
                     result-in_two next (k - 1) ahead s can.some
                     ∙ ap (λ m. in_two (result next (k - 1) m) (result next (k - 1) (ahead - m)) s) (sym is_first)
                     ∙ ap (in_two of_nine of_four) q.is in
-                    subst (λ l. StandsFor g.rows (suc l) r (result next l ahead s)) is_k
-                    (subst (StandsFor g.rows (suc (suc (k - 1))) r) (sym by)
-                    (joined_later f g (suc (k - 1)) ends r _ _ _ _ fg is (ends_are.each 0 0 (one 0) (omega (arith, count)))
-                    (ends_are.each 1 0 (one 0) (omega (arith, count))) (ends_are.each 2 0 (one 0) (omega (arith, count)))
-                    (ends_are.each 3 0 (one 0) (omega (arith, count)))))
+                    let end = λ (q : ℕ) (low : q < 4). ends_are.each q 0 (one 0) (omega (arith, count, low)) in
+                    let whole = joined_later f g (suc (k - 1)) ends r _ _ _ _ fg is (end 0 (omega arith)) (end 1 (omega arith))
+                    (end 2 (omega arith)) (end 3 (omega arith)) in
+                    grind (arith, whole, by, is_k)
 
                 pub joined_keeps : GrowsBy ends f g → Keeps next new c n (Makes next k ahead s) t g last
                 joined_keeps step =

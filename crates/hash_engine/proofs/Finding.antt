@@ -85,11 +85,8 @@ pub StandForAll-found : {next : List ℕ → ℕ} {k generations : ℕ} {numbers
 StandForAll-found {next} {k} {generations} {numbers} {found} {ss} {t} {u} are finds = record {
   count = finds.count ∙ are.count ∙ sym (length-map ss (result next k generations));
   each = λ j d e below.
-      let there : j < length numbers = omega (arith, below, finds.count) in
-      let inside : j < length ss = omega (arith, there, are.count) in
-      subst (StandsFor u.rows (suc k) (get_or found j d)) (sym (get_or-map (result next k generations) ss j (one 0) e inside))
-      (subst (λ s. StandsFor u.rows (suc k) (get_or found j d) (result next k generations s)) (are.each j 0 (one 0) there).square
-      (finds.each j 0 d there).square);
+      let of = get_or-map (result next k generations) ss j (one 0) e in
+      grind (arith, are.each j 0 (one 0), finds, finds.each j 0 d, of);
 }
 
 -- what holds of the squares holds by the numbers, and the other way round

@@ -19,9 +19,6 @@ unfolding picked
 picked-none p m zero few none = grind arith
 picked-none p m (suc n) few none = grind (arith, cases_eq m (suc n), picked-none p m n)
 
-longer : (b : Bool) (n : ℕ) (xs ys : List ℕ) → length xs ≡ suc (length ys) → length (cond b (n ∷ xs) xs) ≡ suc (length (cond b (n ∷ ys) ys))
-longer b n xs ys more = grind arith
-
 -- a test that one number more passes
 pub picked-more : (p q : ℕ → Bool) (j n : ℕ) → j < n → p j ≡ false → q j ≡ true → ((i : ℕ) → i ≢ j → p i ≡ q i) → length (picked q n) ≡ suc (length (picked p n))
 unfolding picked
@@ -61,8 +58,8 @@ pub different-picked : {X : Type 0} (f : ℕ → X) (p : ℕ → Bool) (n : ℕ)
 unfolding picked
 different-picked f p zero differ = λ i j d below there. absurd (omega (arith, there))
 different-picked f p (suc n) differ =
-    different-cond f (p n) n (picked p n) (λ is. All-picked (λ t. f n ≢ t) f p n (λ j below passes. differ n j below (omega arith) is passes))
-    (different-picked f p n (λ i j below there. differ i j below (omega (arith, there))))
+    let here = All-picked (λ t. f n ≢ t) f p n in
+    grind (arith, different-cond f (p n) n (picked p n), here, different-picked f p n)
 
 -- one number more
 pub count-passed : (p : ℕ → Bool) (n : ℕ) → p n ≡ true → length (picked p (n + 1)) ≡ length (picked p n) + 1

@@ -44,9 +44,9 @@ ArePut-grows : (next : List ℕ → ℕ) (count : ℕ → ℕ) (t u : Table) (fu
     AreKnown next count t.rows known → ArePut next count t.rows full known → ArePut next count u.rows full known
 ArePut-grows next count t u full known grows right are i k some number few =
     let was = was_number next count t u known i k grows right some number in
-    let kept = λ (s : Square) (is : IsPut t.rows full s). IsPut-grows t u full s grows is in
-    subst (λ s. Puts next k (count k) s (IsPut u.rows full)) (sym (square_in-grows t u (suc (suc k)) (first_number + i) grows was))
-    (Puts-weaker next k (count k) _ (IsPut t.rows full) (IsPut u.rows full) kept (are i k some was few))
+    let same = square_in-grows t u (suc (suc k)) (first_number + i) grows was in
+    let weaker = Puts-weaker next k (count k) (sought t k (first_number + i)) (IsPut t.rows full) (IsPut u.rows full) in
+    grind (arith, same, weaker (λ s is. IsPut-grows t u full s grows is) (are i k some was few))
 
 pub HasPut-grows : (next : List ℕ → ℕ) (t u : Table) (memo : Memo) → Grows t u → IsRight next t.rows memo →
     HasPut next t.rows memo → HasPut next u.rows memo
@@ -131,9 +131,8 @@ module _ (u : Table) {k generations n r : ℕ} {old new : Memo} (number : IsNumb
       kept = put_still;
       among = λ all way only s put. elim (cases_eq put.place (n - first_number)) [
         | inl here ↦
-            let at : first_number + put.place ≡ n = omega (arith, here, place) in
-            let there = subst (IsNumber u.rows 2) at put.numbered in
-            subst (Contains all) (ap (square_in u.rows 2) (sym at) ∙ put.square) (listed all way there)
+            let there = listed all way in
+            grind (arith, here, place, there, put)
         | inr apart ↦
             let was = others k generations n r old new put.place is apart in
             only s (record { place = put.place; numbered = put.numbered; known = omega (arith, was, put.known); square = put.square })

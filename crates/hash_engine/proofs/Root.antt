@@ -9,7 +9,7 @@ use Rattle.hash_engine.specs.Standing.{IsReady}
 -- a square with states has some
 below_some : (c : ℕ) (s : Square) → IsBelow c s → 0 < c
 unfolding IsBelow
-below_some c (one s) is = omega (arith, is)
+below_some c (one s) is = grind arith
 below_some c (four nw ne sw se) is = below_some c nw is.0
 
 pub IsReady-root : (next : List ℕ → ℕ) (c : ℕ) → Keeps c next → (rows : List (List ℕ)) (level k generations n m : ℕ) →

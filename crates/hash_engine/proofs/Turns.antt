@@ -38,35 +38,23 @@ module _ {next mid : List ℕ → ℕ} {c d k ahead i : ℕ} {olds news : List �
   -- its cells are what they were
   same : (e : ℕ) → sought u k (get_or news i 0) ≡ sought t k (get_or olds i e)
   same e =
-      ap (sought u k) (done.rest i 0 (omega arith) ∙ get_or_default olds i 0 e below)
-      ∙ square_in-grows t u (suc (suc k)) (get_or olds i e) keeps.grows (can.ready i e below).numbered
+      let grown = square_in-grows t u (suc (suc k)) (get_or olds i e) keeps.grows in
+      grind (arith, done.rest i 0, get_or_default olds i 0 e below, grown, can.ready i e below)
 
   pub turn_can : CanSeek mid d u before k ahead (get_or news i 0)
-  turn_can = record {
-    low = can.low;
-    ready = record {
-      numbered = numbered;
-      below =
-          subst (λ f. Puts f k ahead (sought u k (get_or news i 0)) (IsBelow d)) (sym keeps.rule.meaning)
-          (subst (λ n. Puts next k ahead (sought u k (get_or news i 0)) (IsBelow n)) (sym keeps.rule.states)
-          (subst (λ s. Puts next k ahead s (IsBelow c)) (sym (same 0)) (can.ready i 0 below).below));
-    };
-    right = subst (λ f. IsRight f u.rows before) (sym keeps.rule.meaning) keeps.right;
-  }
+  turn_can = grind (arith, numbered, same 0, can.ready i 0 below)
 
   module _ {new : List ℕ → ℕ} {e : ℕ} {v : Table} {after : Memo}
       (now : Keeps mid new d e (Makes mid k ahead (sought u k (get_or news i 0))) u v after) where
     pub turn_keeps : Keeps next new c e (MakesAll next k ahead olds t) t v after
     turn_keeps =
         Keeps-then keeps
-        (λ all ways. subst (λ f. Makes f k ahead (sought u k (get_or news i 0)) (Contains all)) (sym keeps.rule.meaning)
-        (subst (λ s. Makes next k ahead s (Contains all)) (sym (same 0)) (ways i 0 below)))
-        now
+        (λ all ways. let here = ways i 0 below in grind (arith, same 0, here)) now
 
     module _ {a0 a1 a2 : ℕ} (asks : IsCounted next k ahead t first → Asks next (PutsAll next k ahead olds t) t first a0 u before a1)
         (more : IsCounted mid k ahead u before → Asks mid (Puts mid k ahead (sought u k (get_or news i 0))) u before a1 v after a2) where
       counted : IsCounted next k ahead t first → IsCounted next k ahead u before
-      counted is = record { few = is.few; has = (asks is).has }
+      counted is = grind arith
 
       now_asks : IsCounted next k ahead t first → Asks next (Puts next k ahead (sought u k (get_or news i 0))) u before a1 v after a2
       now_asks is =
@@ -88,16 +76,12 @@ module _ {next mid : List ℕ → ℕ} {c d k ahead i : ℕ} {olds news : List �
               let is = subst (λ f. IsFound f (IsCounted f k ahead u before) k ahead (sought u k (get_or news i 0)) v after r)
               keeps.rule.meaning found in
               let last : IsFound next C k ahead (sought u k (get_or news i 0)) v after r = IsFound-then (Grows-same v) counted (λ also q put. put) is in
-              let at : get_or (set news i r) j e ≡ r =
-              ap (λ x. get_or (set news i r) x e) here ∙ get_or-set_same news i r e (omega (arith, below, done.count)) in
-              subst (λ x. IsFound next C k ahead (sought t k (get_or olds x d)) v after (get_or (set news i r) j e)) (sym here)
-              (subst (λ x. IsFound next C k ahead (sought t k (get_or olds i d)) v after x) (sym at)
-              (subst (λ s. IsFound next C k ahead s v after r) (same d) last))
+              let at = get_or-set_same news i r e (omega (arith, below, done.count)) in
+              grind (arith, last, same d, at)
           | inr other ↦
-              subst (λ x. IsFound next (IsCounted next k ahead t first) k ahead (sought t k (get_or olds j d)) v after x)
-              (sym (get_or-set_other news i j r e other))
-              (IsFound-then now.grows (λ is. is) (λ is. (now_asks is).kept) (done.found j d e (omega (arith, early, other))))
+              let kept = λ (is : IsCounted next k ahead t first). (now_asks is).kept in
+              let was = IsFound-then {more = after} now.grows (λ is. is) kept (done.found j d e (omega (arith, early, other))) in
+              grind (arith, was, get_or-set_other news i j r e)
         ];
-        rest = λ j e above.
-            get_or-set_other news i j r e (λ equal. absurd (omega (arith, equal, above))) ∙ done.rest j e (omega (arith, above));
+        rest = λ j e above. grind (arith, get_or-set_other news i j r e, done.rest j e);
       }

@@ -24,10 +24,9 @@ AreKnown-grows : (next : List ℕ → ℕ) (count : ℕ → ℕ) (t u : Table) (
 AreKnown-grows next count t u known grows are = record { right = λ i some. let h = are.right i some in (h.0, IsResult-grows next t u h.0 (count h.0) _ _ grows h.1) }
 
 pub IsRight-grows : (next : List ℕ → ℕ) (t u : Table) (memo : Memo) → Grows t u → IsRight next t.rows memo → IsRight next u.rows memo
-IsRight-grows next t u memo grows right = record {
-  full = AreKnown-grows next (λ k. 2 ^ k) t u memo.full.items grows right.full;
-  part = AreKnown-grows next (λ k. get_or memo.counts k 0) t u memo.part.items grows right.part;
-}
+IsRight-grows next t u memo grows right =
+    let full = AreKnown-grows next (λ k. 2 ^ k) t u memo.full.items grows right.full in
+    record { full = full; part = AreKnown-grows next (λ k. get_or memo.counts k 0) t u memo.part.items grows right.part }
 
 -- what stands at a square's place is its result
 pub recalled : (next : List ℕ → ℕ) (count : ℕ → ℕ) (rows : List (List ℕ)) (known : List ℕ) (k generations n r : ℕ) → generations ≡ count k → first_number ≤ n → 0 < r → get_or known (n - first_number) 0 ≡ r →

@@ -36,9 +36,8 @@ pub compute-all_forward-requires : goal.compute-all_forward-requires
 compute-all_forward-requires g t c κs within =
     let nine = c.in_ok-nine.ensures in
     let can : CanSeekAll (g.Q.Ask.meaning c.args.rule.now) (g.Q.Ask.state_count c.args.rule.now)
-    c.nine.new.table c.args.memo.now
-    (c.args.k - 1) c.min-first.result c.in_ok-nine.nine = nine_can c.requires c.min-first.ensures
-    c.full.ensures nine.grows nine.adds nine.squares in
+    c.nine.new.table c.args.memo.now (c.args.k - 1) c.min-first.result c.in_ok-nine.nine =
+    nine_can c.requires c.min-first.ensures c.full.ensures nine.grows nine.adds nine.squares in
     search rules
 
 pub compute-returns-in_err-all_forward-clause-keeps : goal.compute-returns-in_err-all_forward-clause-keeps
@@ -60,8 +59,7 @@ compute-all_forward-requires-2 g t c κs within =
     let one = c.in_ok-all_forward.ensures in
     let four = c.in_ok-fours.ensures in
     let can : CanSeekAll (g.Q.Ask.meaning c.all_forward.new.rule) (g.Q.Ask.state_count c.all_forward.new.rule)
-    c.fours.new.table
-    c.all_forward.new.memo (c.args.k - 1) (c.args.ahead - c.min-first.result) c.in_ok-fours.fours =
+    c.fours.new.table c.all_forward.new.memo (c.args.k - 1) (c.args.ahead - c.min-first.result) c.in_ok-fours.fours =
     fours_can c.requires c.min-first.ensures c.full.ensures nine.grows nine.adds nine.squares one.keeps
     one.found four.grows four.adds four.squares in
     search rules
@@ -72,8 +70,7 @@ compute-returns-in_err-all_forward-2-clause-keeps g t c =
     let one = c.in_ok-all_forward.ensures in
     let four = c.in_ok-fours.ensures in
     last_keeps c.requires c.min-first.ensures c.full.ensures nine.grows nine.adds nine.squares one.keeps
-    one.found four.grows four.adds four.squares
-    c.all_forward-2.ensures.keeps
+    one.found four.grows four.adds four.squares c.all_forward-2.ensures.keeps
 
 pub compute-returns-in_err-all_forward-2-clause-end : goal.compute-returns-in_err-all_forward-2-clause-end
 compute-returns-in_err-all_forward-2-clause-end g t c = grind arith
@@ -85,8 +82,8 @@ compute-returns-in_err-join_numbers-clause-keeps g t c =
     let four = c.in_ok-fours.ensures in
     let two = c.in_ok-all_forward-2.ensures in
     joined_keeps c.requires c.min-first.ensures c.full.ensures nine.grows nine.adds nine.squares one.keeps
-    one.found four.grows four.adds four.squares
-    two.keeps two.found c.join_numbers.ensures.grows c.join_numbers.ensures.one
+    one.found four.grows four.adds four.squares two.keeps two.found c.join_numbers.ensures.grows
+    c.join_numbers.ensures.one
 
 pub compute-returns : goal.compute-returns
 compute-returns g t c =

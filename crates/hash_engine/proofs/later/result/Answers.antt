@@ -15,9 +15,7 @@ forward-requires g c =
     let level : level_of c.args.root ≡ suc (suc (c.level-k.result - 2)) = omega (arith, c.requires.level.0, c.level-k.ensures) in
     record {
       low = omega (arith, c.requires.level.1, c.level-k.ensures);
-      ready = IsReady-root _ _ (g.met.Q.Ask.below c.args.rule.now) c.args.table.now.rows (level_of c.args.root)
-          (c.level-k.result - 2) c.args.generations (number_of c.args.root) c.number.result level c.number.ensures
-          c.requires.held.numbered c.requires.below;
+      ready = (let keeps = g.met.Q.Ask.below c.args.rule.now in search (rules, IsReady-root));
       right = c.turn_to.ensures.right next c.args.table.now.rows (c.nothing-memo.ensures.right next c.args.table.now.rows);
     }
 
@@ -34,21 +32,19 @@ returns-clause-found g c =
     let stands = made.found.square in
     record {
       square = search rules;
-      made =
-          subst (λ j. Makes next j c.args.generations (cells_of c.args.table.now c.args.root) (IsMade c.forward.new.table.rows)) less
-          (subst (λ s. Makes next k c.args.generations s (IsMade c.forward.new.table.rows)) root made.found.made);
+      made = grind (arith, made.found.made, less, root);
       fours = count.fours;
       few = count.few;
       base = count.base;
       put = λ few.
           let counted : IsCounted next k c.args.generations c.args.table.now c.turn_to.new.self = record {
-            few = subst (λ j. c.args.generations ≤ 2 ^ j) (sym less) few;
+            few = grind (arith, less, few);
             has = c.turn_to.ensures.put next c.args.table.now.rows (c.nothing-memo.ensures.put next c.args.table.now.rows);
           } in
           let none = c.turn_to.ensures.full ∙ c.nothing-memo.ensures.none in
-          subst (λ j. PutsBlocks next j c.args.generations (cells_of c.args.table.now c.args.root) c.count_squares-counts.result.base) less
-          (subst (λ s. PutsBlocks next k c.args.generations s c.count_squares-counts.result.base) root
-          (put_blocks c.number.result none counted made.keeps.right count.distinct count.put (made.asks counted) (made.found.put counted)));
+          let asked = made.asks counted in
+          let blocks = put_blocks c.number.result none counted made.keeps.right count.distinct count.put asked in
+          grind (arith, blocks (made.found.put counted), less, root);
     }
 
 pub returns-clause-once : goal.returns-clause-once

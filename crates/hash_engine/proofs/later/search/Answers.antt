@@ -1,4 +1,4 @@
-use Rattle.std.proofs.Common.{◌≡◌, suc, ◌-◌, arith}
+use Rattle.std.proofs.Common.{◌≡◌, suc, ◌-◌, arith, rules}
 use Rattle.square_table.specs.Squares.{level_of, number_of}
 use Rattle.hash_engine.proofs.Root.{IsReady-root}
 use Rattle.hash_engine.proofs.later.search.Goals as goal
@@ -8,7 +8,6 @@ forward-requires g c =
     let level : level_of c.args.root ≡ suc (suc (c.level-k.result - 2)) = omega (arith, c.requires.asked.level.0, c.level-k.ensures) in
     record {
       low = omega (arith, c.requires.asked.level.1, c.level-k.ensures);
-      ready = IsReady-root _ _ (g.met.Q.Ask.below c.args.rule.now) c.args.table.now.rows (level_of c.args.root) (c.level-k.result - 2) c.args.generations (number_of c.args.root) c.number.result level c.number.ensures
-          c.requires.asked.held.numbered c.requires.asked.below;
+      ready = (let keeps = g.met.Q.Ask.below c.args.rule.now in search (rules, IsReady-root));
       right = c.turn_to.ensures.right (g.Q.Ask.meaning c.args.rule.now) c.args.table.now.rows c.requires.right;
     }

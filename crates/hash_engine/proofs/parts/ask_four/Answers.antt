@@ -1,4 +1,4 @@
-use Rattle.std.proofs.Common.{◌≡◌, ◌∙◌, ℕ, ◌<◌, [], ◌∷◌, sym, subst}
+use Rattle.std.proofs.Common.{◌≡◌, ◌∙◌, ℕ, ◌<◌, [], ◌∷◌, sym, subst, rules, arith}
 use Rattle.std.specs.Prelude.{All}
 use Rattle.hash_life.specs.Puts.{IsBelow}
 use Rattle.hash_life.proofs.Shared.Nine.{All-nine}
@@ -11,16 +11,20 @@ nine_below u v a b c d e f g h i is ha hb hc hd he hf hg hh hi =
 
 pub ask-requires : goal.ask-requires
 unfolding IsBelow
-ask-requires g c = let is = c.requires in All-nine (λ s. s < g.Q.Ask.state_count c.args.rule.now) _ _ _ _ _ _ _ _ _ is.0.3 is.0.1 is.1.0 is.1.2 is.3.0 is.2.1 is.2.0 is.0.2 is.0.0
+ask-requires g c = search (rules, All-nine)
 
 pub ask-requires-2 : goal.ask-requires-2
 unfolding IsBelow
-ask-requires-2 g c = let is = c.requires in nine_below _ _ _ _ _ _ _ _ _ _ _ c.ask.ensures.states is.1.2 is.1.0 is.1.1 is.1.3 is.3.1 is.3.0 is.2.1 is.0.3 is.0.1
+ask-requires-2 g c = search (rules, nine_below)
 
 pub ask-requires-3 : goal.ask-requires-3
 unfolding IsBelow
-ask-requires-3 g c = let is = c.requires in nine_below _ _ _ _ _ _ _ _ _ _ _ (c.ask-2.ensures.states ∙ c.ask.ensures.states) is.2.1 is.0.3 is.1.2 is.3.0 is.3.2 is.2.3 is.2.2 is.2.0 is.0.2
+ask-requires-3 g c =
+    let same = c.ask-2.ensures.states ∙ c.ask.ensures.states in
+    search (rules, nine_below)
 
 pub ask-requires-4 : goal.ask-requires-4
 unfolding IsBelow
-ask-requires-4 g c = let is = c.requires in nine_below _ _ _ _ _ _ _ _ _ _ _ (c.ask-3.ensures.states ∙ c.ask-2.ensures.states ∙ c.ask.ensures.states) is.3.0 is.1.2 is.1.3 is.3.1 is.3.3 is.3.2 is.2.3 is.2.1 is.0.3
+ask-requires-4 g c =
+    let same = c.ask-3.ensures.states ∙ c.ask-2.ensures.states ∙ c.ask.ensures.states in
+    search (rules, nine_below)
