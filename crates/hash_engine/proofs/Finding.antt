@@ -44,11 +44,8 @@ pub IsFound-none : {next : List ℕ → ℕ} {Counted : Type 0} {k generations n
 IsFound-none {next} {Counted} {k} {generations} {n} {r} {s} {t} {u} {memo} none grows stands gives =
     let middle = subst (StandsFor u.rows (suc k) r) (sym (result-none next k s)) (gives k s stands) in
     let whole = made_of (StandsFor-grows t u (suc (suc k)) n s grows stands) in
-    subst (λ g. IsFound next Counted k g s u memo r) (sym none) (record {
-      square = middle;
-      made = Makes-none next k s (IsMade u.rows) whole (made_of middle);
-      put = λ counted. Puts-none next k s (IsPut u.rows memo.full.items);
-    })
+    let made = Makes-none next k s (IsMade u.rows) whole (made_of middle) in
+    grind (arith, none, middle, made, Puts-none next k s (IsPut u.rows memo.full.items))
 
 -- for a square of 4 by 4 cells it is put to the rule
 pub IsFound-put : {next : List ℕ → ℕ} {Counted : Type 0} {generations n r : ℕ} {s : Square} {t u : Table} {memo : Memo} →
@@ -56,11 +53,8 @@ pub IsFound-put : {next : List ℕ → ℕ} {Counted : Type 0} {generations n r 
     (Counted → IsPut u.rows memo.full.items s) → IsFound next Counted 0 generations s u memo r
 IsFound-put {next} {Counted} {generations} {n} {r} {s} {t} {u} {memo} some grows stands found put =
     let square = subst (StandsFor u.rows 1 r) (sym (result-later next generations s some)) found in
-    record {
-      square = square;
-      made = Makes-last next generations s (IsMade u.rows) (made_of (StandsFor-grows t u 2 n s grows stands)) (made_of square);
-      put = λ counted. Puts-last next generations s (IsPut u.rows memo.full.items) (put counted);
-    }
+    let made = Makes-last next generations s (IsMade u.rows) (made_of (StandsFor-grows t u 2 n s grows stands)) (made_of square) in
+    grind (arith, square, made, Puts-last next generations s (IsPut u.rows memo.full.items), put)
 
 -- it is found still in a table that grew, where more is put
 pub IsFound-then : {next : List ℕ → ℕ} {Counted Also : Type 0} {k generations n : ℕ} {s : Square} {u v : Table} {memo more : Memo} →

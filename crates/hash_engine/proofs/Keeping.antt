@@ -16,12 +16,9 @@ pub Keeps-made : {next : List ℕ → ℕ} {count : ℕ} {Way : (Square → Type
     Grows t u → IsRight next t.rows memo →
     ((all : List Square) → Way (Contains all) → AreAmong all t.rows → AreAmong all u.rows) →
     Keeps next next count count Way t u memo
-Keeps-made {next} {count} {Way} {t} {u} {memo} grows right adds = record {
-  rule = record { meaning = refl; states = refl };
-  grows = grows;
-  right = IsRight-grows next t u memo grows right;
-  adds = adds;
-}
+Keeps-made {next} {count} {Way} {t} {u} {memo} grows right adds =
+    let still = IsRight-grows next t u memo grows right in
+    record { rule = record { meaning = refl; states = refl }; grows = grows; right = still; adds = adds }
 
 -- and then the table alone grew
 pub Keeps-grown : {next new : List ℕ → ℕ} {c d : ℕ} {Way : (Square → Type 0) → Type 0} {t u v : Table} {memo : Memo} →

@@ -37,13 +37,13 @@ compute-all_forward-requires g t c κs within =
     let nine = c.in_ok-nine.ensures in
     let can : CanSeekAll (g.Q.Ask.meaning c.args.rule.now) (g.Q.Ask.state_count c.args.rule.now)
     c.nine.new.table c.args.memo.now (c.args.k - 1) c.min-first.result c.in_ok-nine.nine =
-    nine_can c.requires c.min-first.ensures c.full.ensures nine.grows nine.adds nine.squares in
+    nine_can {half = c.full.result} c.requires c.min-first.ensures c.full.ensures nine.grows nine.adds nine.squares in
     search rules
 
 pub compute-returns-in_err-all_forward-clause-keeps : goal.compute-returns-in_err-all_forward-clause-keeps
 compute-returns-in_err-all_forward-clause-keeps g t c =
     let nine = c.in_ok-nine.ensures in
-    first_keeps c.requires c.min-first.ensures c.full.ensures nine.grows nine.adds nine.squares
+    first_keeps {half = c.full.result} c.requires c.min-first.ensures c.full.ensures nine.grows nine.adds nine.squares
     c.all_forward.ensures.keeps
 
 pub compute-returns-in_err-fours-clause-keeps : goal.compute-returns-in_err-fours-clause-keeps

@@ -1,4 +1,4 @@
-use Rattle.std.proofs.Common.{◌≡◌, ◌∙◌, refl, sym, subst, suc, length, inl, lit<, rules}
+use Rattle.std.proofs.Common.{◌≡◌, ◌∙◌, refl, sym, subst, suc, length, inl, lit<, rules, ℕ, List}
 use Rattle.worlds.specs.Square.{one}
 use Rattle.square_table.proofs.Shared.Growth.{Grows-same}
 use Rattle.hash_engine.proofs.Growth.{◌⟫◌}
@@ -6,6 +6,7 @@ use Rattle.hash_engine.specs.Standing.{StandForAll}
 use Rattle.hash_engine.proofs.Standing.{StandsFor-of_nine, StandForAll-four, fours_at}
 use Rattle.hash_engine.proofs.Adding.{Adds-fours}
 use Rattle.hash_engine.proofs.parts.fours.Goals as goal
+use Rattle.square_table.specs.Squares.{GrowsBy}
 
 pub returns-clause-squares : goal.returns-clause-squares
 returns-clause-squares c = λ k ss are.
@@ -25,14 +26,16 @@ returns-clause-squares c = λ k ss are.
 pub returns-in_err-ne-clause-adds : goal.returns-in_err-ne-clause-adds
 returns-in_err-ne-clause-adds c =
     let count : length c.args.nine ≡ 9 = search rules in
-    Adds-fours c.args.table.now c.join_guessed.new.self c.join_guessed-2.new.self c.join_guessed-2.new.self c.join_guessed-2.new.self c.args.nine count
-    c.join_guessed.ensures.grows c.join_guessed.ensures.one c.join_guessed-2.ensures.grows c.join_guessed-2.ensures.one (Grows-same c.join_guessed-2.new.self) (inl refl) (Grows-same c.join_guessed-2.new.self) (inl refl)
+    let same = Grows-same c.join_guessed-2.new.self in
+    let none : (kids : List ℕ) → GrowsBy kids c.join_guessed-2.new.self c.join_guessed-2.new.self = λ kids. inl refl in
+    search (rules, Adds-fours)
 
 pub returns-in_err-sw-clause-adds : goal.returns-in_err-sw-clause-adds
 returns-in_err-sw-clause-adds c =
     let count : length c.args.nine ≡ 9 = search rules in
-    Adds-fours c.args.table.now c.join_guessed.new.self c.join_guessed-2.new.self c.join_guessed-3.new.self c.join_guessed-3.new.self c.args.nine count
-    c.join_guessed.ensures.grows c.join_guessed.ensures.one c.join_guessed-2.ensures.grows c.join_guessed-2.ensures.one c.join_guessed-3.ensures.grows c.join_guessed-3.ensures.one (Grows-same c.join_guessed-3.new.self) (inl refl)
+    let same = Grows-same c.join_guessed-3.new.self in
+    let none : (kids : List ℕ) → GrowsBy kids c.join_guessed-3.new.self c.join_guessed-3.new.self = λ kids. inl refl in
+    search (rules, Adds-fours)
 
 pub returns-in_err-se-clause-adds : goal.returns-in_err-se-clause-adds
 returns-in_err-se-clause-adds c =

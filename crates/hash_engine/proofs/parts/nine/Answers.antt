@@ -1,9 +1,10 @@
-use Rattle.std.proofs.Common.{refl, inl, rules}
+use Rattle.std.proofs.Common.{refl, inl, rules, ℕ, List}
 use Rattle.square_table.proofs.Shared.Growth.{Grows-same}
 use Rattle.hash_engine.proofs.Growth.{◌⟫◌}
 use Rattle.hash_engine.proofs.Standing.{StandsFor-between, StandsFor-amid, StandsFor-middle, StandForAll-nine_of}
 use Rattle.hash_engine.proofs.Adding.{Adds-nine}
 use Rattle.hash_engine.proofs.parts.nine.Goals as goal
+use Rattle.square_table.specs.Squares.{GrowsBy}
 
 pub returns-clause-squares : goal.returns-clause-squares
 returns-clause-squares c = λ k s whole.
@@ -34,27 +35,21 @@ returns-clause-squares c = λ k s whole.
 
 pub returns-in_err-west-clause-adds : goal.returns-in_err-west-clause-adds
 returns-in_err-west-clause-adds c = λ k s whole.
-    Adds-nine c.args.table.now c.join_guessed.new.self c.join_guessed-2.new.self c.join_guessed-2.new.self c.join_guessed-2.new.self c.join_guessed-2.new.self
-    k c.args.number _ _ _ _ _ s whole c.quadrants.ensures c.quadrants-2.ensures c.quadrants-3.ensures
-    c.quadrants-4.ensures c.quadrants-5.ensures c.join_guessed.ensures.grows c.join_guessed.ensures.one
-    c.join_guessed-2.ensures.grows c.join_guessed-2.ensures.one (Grows-same c.join_guessed-2.new.self) (inl refl)
-    (Grows-same c.join_guessed-2.new.self) (inl refl) (Grows-same c.join_guessed-2.new.self) (inl refl)
+    let same = Grows-same c.join_guessed-2.new.self in
+    let none : (kids : List ℕ) → GrowsBy kids c.join_guessed-2.new.self c.join_guessed-2.new.self = λ kids. inl refl in
+    search (rules, Adds-nine)
 
 pub returns-in_err-centre-clause-adds : goal.returns-in_err-centre-clause-adds
 returns-in_err-centre-clause-adds c = λ k s whole.
-    Adds-nine c.args.table.now c.join_guessed.new.self c.join_guessed-2.new.self c.join_guessed-3.new.self c.join_guessed-3.new.self c.join_guessed-3.new.self
-    k c.args.number _ _ _ _ _ s whole c.quadrants.ensures c.quadrants-2.ensures c.quadrants-3.ensures
-    c.quadrants-4.ensures c.quadrants-5.ensures c.join_guessed.ensures.grows c.join_guessed.ensures.one
-    c.join_guessed-2.ensures.grows c.join_guessed-2.ensures.one c.join_guessed-3.ensures.grows c.join_guessed-3.ensures.one
-    (Grows-same c.join_guessed-3.new.self) (inl refl) (Grows-same c.join_guessed-3.new.self) (inl refl)
+    let same = Grows-same c.join_guessed-3.new.self in
+    let none : (kids : List ℕ) → GrowsBy kids c.join_guessed-3.new.self c.join_guessed-3.new.self = λ kids. inl refl in
+    search (rules, Adds-nine)
 
 pub returns-in_err-east-clause-adds : goal.returns-in_err-east-clause-adds
 returns-in_err-east-clause-adds c = λ k s whole.
-    Adds-nine c.args.table.now c.join_guessed.new.self c.join_guessed-2.new.self c.join_guessed-3.new.self c.join_guessed-4.new.self c.join_guessed-4.new.self
-    k c.args.number _ _ _ _ _ s whole c.quadrants.ensures c.quadrants-2.ensures c.quadrants-3.ensures
-    c.quadrants-4.ensures c.quadrants-5.ensures c.join_guessed.ensures.grows c.join_guessed.ensures.one
-    c.join_guessed-2.ensures.grows c.join_guessed-2.ensures.one c.join_guessed-3.ensures.grows c.join_guessed-3.ensures.one
-    c.join_guessed-4.ensures.grows c.join_guessed-4.ensures.one (Grows-same c.join_guessed-4.new.self) (inl refl)
+    let same = Grows-same c.join_guessed-4.new.self in
+    let none : (kids : List ℕ) → GrowsBy kids c.join_guessed-4.new.self c.join_guessed-4.new.self = λ kids. inl refl in
+    search (rules, Adds-nine)
 
 pub returns-in_err-south-clause-adds : goal.returns-in_err-south-clause-adds
 returns-in_err-south-clause-adds c = λ k s whole. search (rules, Adds-nine)
