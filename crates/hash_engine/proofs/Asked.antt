@@ -1,5 +1,5 @@
 -- Four by four cells by the numbers of their squares.
-use Rattle.std.proofs.Common.{◌≡◌, ℕ, ◌<◌, List, [], ◌∷◌, get_or, refl, sym, ◌∙◌, ap, subst, arith}
+use Rattle.std.proofs.Common.{◌≡◌, ℕ, ◌<◌, List, [], ◌∷◌, get_or, refl, ◌∙◌, subst, arith}
 use Rattle.worlds.specs.Square.{Square, one, four}
 use Rattle.square_table.specs.Squares.{IsNumber, square_in, kids_at, IsSquareOf}
 use Rattle.hash_engine.specs.Standing.{StandsFor, of_four}

@@ -37,8 +37,7 @@ All-picked P f p (suc n) holds = grind (arith, All-cond P f (p n) n (picked p n)
 
 -- each number that passes is there
 first-cond : {X : Type 0} (f : ℕ → X) (b : Bool) (n : ℕ) (xs : List ℕ) → b ≡ true → Contains (map f (cond b (n ∷ xs) xs)) (f n)
-first-cond f true n xs is = Contains-get_or (map f (n ∷ xs)) 0 (f n) (omega arith)
-first-cond f false n xs is = absurd cc
+first-cond f b n xs is = grind (arith, Contains-get_or (map f (n ∷ xs)) 0 (f n))
 
 later-cond : {X : Type 0} (f : ℕ → X) (b : Bool) (n : ℕ) (xs : List ℕ) (x : X) → Contains (map f xs) x → Contains (map f (cond b (n ∷ xs) xs)) x
 later-cond f true n xs x has = Contains-append_right (f n ∷ []) (map f xs) x has

@@ -1,16 +1,15 @@
 -- A loop that writes results over squares.
-use Rattle.std.proofs.Common.{◌≡◌, ℕ, suc, ◌+◌, ◌<◌, ◌≤◌, List, length, get_or, sym, ◌∙◌, ap, subst, arith, inl, inr}
+use Rattle.std.proofs.Common.{◌≡◌, ℕ, suc, ◌+◌, ◌<◌, ◌≤◌, List, length, get_or, sym, ◌∙◌, subst, arith, inl, inr}
 use Rattle.std.proofs.Math.ListN.{set}
 use Rattle.std.specs.Prelude.{Contains}
 use Rattle.std.proofs.lemmas.Bool.{cases_eq}
 use Rattle.std.proofs.lemmas.List.{length-set, get_or_default, get_or-set_same, get_or-set_other}
 use Rattle.square_table.specs.Squares.{Table, IsNumber}
 use Rattle.square_table.proofs.Shared.Growth.{Grows-same, IsNumber-grows, square_in-grows}
-use Rattle.hash_life.specs.Puts.{Puts, IsBelow}
+use Rattle.hash_life.specs.Puts.{Puts}
 use Rattle.hash_life.specs.Makes.{Makes}
 use Rattle.hash_engine.specs.declared.memo.Memo.{Memo}
 use Rattle.hash_engine.specs.Search.{CanSeek, CanSeekAll, sought, MakesAll, PutsAll, Keeps, Asks, IsCounted, IsFound, FirstAreFound, FindsForAll}
-use Rattle.hash_engine.specs.Memo.{IsRight}
 use Rattle.hash_engine.proofs.Finding.{IsFound-then}
 use Rattle.hash_engine.proofs.Keeping.{Keeps-then}
 use Rattle.hash_engine.proofs.Putting.{Asks-then}

@@ -1,9 +1,6 @@
 use Rattle.std.proofs.Common.{◌≡◌, suc, ◌-◌, ◌^◌, ◌≤◌, ◌∙◌, ap, ap₂, subst, sym, arith, rules}
 use Rattle.worlds.specs.Square.{square_at}
-use Rattle.square_table.specs.Squares.{level_of, number_of, square_in, cells_of}
-use Rattle.square_table.specs.Made.{IsMade}
-use Rattle.hash_life.specs.Puts.{PutsBlocks}
-use Rattle.hash_life.specs.Makes.{Makes}
+use Rattle.square_table.specs.Squares.{level_of, square_in, cells_of}
 use Rattle.hash_engine.specs.Search.{IsCounted}
 use Rattle.hash_engine.proofs.Root.{IsReady-root}
 use Rattle.hash_engine.proofs.Blocks.{put_blocks, asked_once}

@@ -1,4 +1,4 @@
-use Rattle.std.proofs.Common.{◌≡◌, ◌∙◌, ℕ, ◌<◌, [], ◌∷◌, sym, subst, rules, arith}
+use Rattle.std.proofs.Common.{◌≡◌, ◌∙◌, ℕ, ◌<◌, [], ◌∷◌, sym, subst, rules}
 use Rattle.std.specs.Prelude.{All}
 use Rattle.hash_life.specs.Puts.{IsBelow}
 use Rattle.hash_life.proofs.Shared.Nine.{All-nine}
