@@ -1,5 +1,5 @@
 -- Lines of edits, read back.
-use Rattle.std.proofs.Common.{◌≡◌, ◌∙◌, ℕ, suc, ◌+◌, ◌<◌, ◌≤◌, ◌^◌, ◌-◌, ◌==◌, ℤ, pos, negsuc, min, List, [], ◌∷◌}
+use Rattle.std.proofs.Common.{◌≡◌, ◌∙◌, ℕ, suc, ◌+◌, ◌<◌, ◌≤◌, ◌^◌, ◌-◌, ◌==◌, ℤ, pos, negsuc, List, [], ◌∷◌}
 use Rattle.std.proofs.Common.{◌++◌, length, true, false, codes, decimal, refl, sym, ap, ap₂, append_assoc, append-nil}
 use Rattle.std.proofs.Common.{subst, arith, Option, Some, None, FitsSigned, w64, All}
 use Rattle.std.specs.Prelude.{flat_map, neg_ℤ}
@@ -29,12 +29,11 @@ use Rattle.bookmarks.specs.declared.view.View.TheVariants as view
 use Rattle.schedule.specs.declared.edit.Edit.{Edit}
 use Rattle.schedule.specs.declared.edit.Edit.TheVariants as edit
 use Rattle.schedule.specs.Asked.{Asked, asked_of, AddBookmark, AddBranch, InsertIntervention, InsertRepeat}
-use Rattle.schedule.specs.Asked.{RemoveBookmark, RemoveBranch, RemoveIntervention, ChangeIntervention, ChangeRepeat}
-use Rattle.schedule.specs.Asked.{SetCells, ReplaceStart, ReplaceRule, MoveBookmark}
+use Rattle.schedule.specs.Asked.{RemoveBookmark, RemoveBranch, RemoveIntervention}
 use Rattle.desk_server.specs.Numbers.{coordinate, up_to}
-use Rattle.desk_server.specs.View.{alone, extent, view_of, window_by}
-use Rattle.desk_server.specs.Command.{before, cell_by, cell_of, cells_of, cells_set, command_of_words, count_of}
-use Rattle.desk_server.specs.Command.{edit_in_named, format_of_words, repeated_by, some_cells}
+use Rattle.desk_server.specs.View.{alone, view_of}
+use Rattle.desk_server.specs.Command.{before, cell_of, cells_of, cells_set, command_of_words, count_of}
+use Rattle.desk_server.specs.Command.{edit_in_named, format_of_words, repeated_by}
 use Rattle.desk_server.specs.Listed.{view_words}
 use Rattle.desk_server.specs.Scripted.{cell_words, edit_line}
 use Rattle.desk_server.specs.Script.{Between, asked_by, asks}
@@ -56,15 +55,14 @@ record SaysWords (says : List ℕ) (ws : List (List ℕ)) : Type 0 where
   ends : EndsSolid says
 
 no-space : (b : ℕ) → IsVisible b → (b == 32) ≡ false
-no-space b h = let low : 33 ≤ b = h.0 in differs b 32 (λ e. omega arith)
+no-space b h = grind (arith, differs)
 
 unparted : (w : List ℕ) → IsPlainWord w → All (λ b. (b == 32) ≡ false) w
 unparted w h =
     All-from_recursion (λ b. (b == 32) ≡ false) w (all_so IsVisible (λ b. (b == 32) ≡ false) w no-space h.visible)
 
 word-some : (w : List ℕ) → 0 < length w → is_word w ≡ true
-word-some [] some = absurd (omega (arith, some))
-word-some (b ∷ bs) some = refl
+word-some w some = grind (arith)
 
 solid : (w rest : List ℕ) → IsPlainWord w → AllByRecursion IsPrinted (w ++ rest) → EndsSolid (w ++ rest)
     → IsLine (w ++ rest)
@@ -121,8 +119,7 @@ signed (negsuc n) h =
 
 -- the numbers that they write
 reads-up_to : (most n : ℕ) → n ≤ most → IsCount n → up_to most (decimal n) ≡ Some n
-reads-up_to most n low h =
-    ap (λ o. option_map (λ m. min m most) o) (number_of-decimal n h) ∙ ap Some (omega (arith, low))
+reads-up_to most n low h = grind (arith, number_of-decimal)
 
 counts : (n : ℕ) → IsCount n → count_of (decimal n) ≡ Some n
 counts n h = reads-up_to (2 ^ 64 - 1) n (omega (arith, h)) h
@@ -157,10 +154,7 @@ words_of_cells (c ∷ cs) = signed_decimal c.x ∷ signed_decimal c.y ∷ decima
 
 cell-read : (c : CellSet) → IsWrittenCell c
     → cell_of (signed_decimal c.x) (signed_decimal c.y) (decimal c.state) ≡ Some c
-cell-read c h =
-    let low = h.state in
-    ap₂ (λ x y. cell_by x y (up_to (2 ^ 16 - 1) (decimal c.state))) (reads-signed c.x h.x) (reads-signed c.y h.y)
-    ∙ ap (cell_by (Some c.x) (Some c.y)) (reads-up_to (2 ^ 16 - 1) c.state (omega (arith, low)) (omega (arith, low)))
+cell-read c h = grind (arith, reads-signed, reads-up_to)
 
 cells-read : (cs : List CellSet) → AllByRecursion IsWrittenCell cs → cells_of (words_of_cells cs) ≡ Some cs
 cells-read [] h = refl
@@ -208,8 +202,7 @@ set-line (c ∷ cs) h =
     (line-more (codes "set") tail.rest _ (plain (codes "set") (omega arith) (visible-tested (codes "set") refl)) tail.line)
 
 set-read : (cs : List CellSet) → AreWritten cs → cells_set (codes "set" ∷ words_of_cells cs) ≡ Some cs
-set-read [] h = let some = h.some in absurd (omega arith)
-set-read (c ∷ cs) h = ap some_cells (cells-read (c ∷ cs) h.each)
+set-read cs h = grind (arith, cells-read)
 
 -- a word of letters
 letters : (w : List ℕ) → 0 < length w → list_all is_visible w ≡ true → IsPlainWord w
@@ -296,15 +289,7 @@ view-line (view.Window left top width height) h =
     (line-last (decimal height) (number height (omega (arith, h.3))))))))
 
 view-read : (v : View) → IsWrittenView v → view_of (view_words_of v) ≡ Some v
-view-read view.Counts h = refl
-view-read view.Rle h = refl
-view-read view.Macrocell h = refl
-view-read (view.Window left top width height) h =
-    ap₂ (λ x y. window_by x y (extent (decimal width)) (extent (decimal height))) (reads-signed left h.0)
-    (reads-signed top h.1)
-    ∙ ap₂ (λ w v. window_by (Some left) (Some top) w v)
-    (reads-up_to (2 ^ 32 - 1) width (omega (arith, h.2)) (omega (arith, h.2)))
-    (reads-up_to (2 ^ 32 - 1) height (omega (arith, h.3)) (omega (arith, h.3)))
+view-read v h = grind (arith, reads-signed, reads-up_to)
 
 bookmark-line : (b generation : ℕ) (v : View) → IsCount b → IsCount generation → IsWrittenView v
     → ReadsBack (AddBookmark b generation v)
@@ -365,16 +350,4 @@ every-line b first every last cs h i j k w =
         (option_map repeated_by (option_zip e o)))
 
 pub edit-lines : EditLinesReadBack
-edit-lines (AddBranch parent generation) h = branch-line parent generation h.0 h.1
-edit-lines (RemoveBranch id) h = unbranch-line id h
-edit-lines (AddBookmark b generation v) h = bookmark-line b generation v h.0 h.1 h.2
-edit-lines (RemoveBookmark id) h = unmark-line id h
-edit-lines (InsertIntervention b generation cs) h = once-line b generation cs h.0 h.1 h.2
-edit-lines (InsertRepeat b first every last cs) h = every-line b first every last cs h.0 h.1 h.2 h.3 h.4
-edit-lines (RemoveIntervention id) h = drop-line id h
-edit-lines (ChangeIntervention id generation cs) h = absurd h
-edit-lines (ChangeRepeat id first every last cs) h = absurd h
-edit-lines (SetCells cs) h = absurd h
-edit-lines (ReplaceStart start) h = absurd h
-edit-lines (ReplaceRule rule) h = absurd h
-edit-lines (MoveBookmark id generation) h = absurd h
+edit-lines x0 h = grind (arith, bookmark-line, branch-line, drop-line, every-line, once-line, unbranch-line, unmark-line)

@@ -6,10 +6,9 @@ use Rattle.basics.proofs.Shared.Lists.{all_append, all_so}
 use Rattle.text_lines.specs.Lines.{Ended, Line, lines_until}
 use Rattle.schedule.specs.declared.acts.Acts.TheVariants.{Once, Every}
 use Rattle.schedule.specs.declared.document.Intervention.{Intervention}
-use Rattle.schedule.specs.Asked.{Asked, ReplaceRule, ReplaceStart, AddBookmark, AddBranch, InsertIntervention}
+use Rattle.schedule.specs.Asked.{Asked, InsertIntervention}
 use Rattle.schedule.specs.Asked.{InsertRepeat}
-use Rattle.schedule.specs.Asked.{RemoveBookmark, RemoveBranch, RemoveIntervention, ChangeIntervention, ChangeRepeat}
-use Rattle.schedule.specs.Asked.{SetCells, MoveBookmark}
+use Rattle.schedule.specs.Asked.{RemoveIntervention, ChangeIntervention, ChangeRepeat}
 use Rattle.schedule.specs.Change.{acting, changed, next_intervention}
 use Rattle.schedule.specs.Plan.{Plan, opening}
 use Rattle.schedule.proofs.Shared.Changed.{HasStates}
@@ -43,14 +42,7 @@ stand-step p (ChangeRepeat id first every last cells) h k =
     (λ i _. (h.1, h.0)) k
 stand-step p (RemoveIntervention id) h k =
     each_filter CanStand (λ (i : Intervention). not (i.id == id)) p.interventions k
-stand-step p (SetCells cells) h k = k
-stand-step p (ReplaceStart start) h k = k
-stand-step p (ReplaceRule rule) h k = k
-stand-step p (AddBookmark b generation view) h k = k
-stand-step p (MoveBookmark id generation) h k = k
-stand-step p (RemoveBookmark id) h k = k
-stand-step p (AddBranch parent generation) h k = k
-stand-step p (RemoveBranch b) h k = k
+stand-step p asked h k = k
 
 -- what stays of a document that a script edits
 record IsKept (p : Plan) : Type 0 where
@@ -93,16 +85,7 @@ sessions-keep s (ask ∷ rest) shortages fits k =
     goes-on false later h = h
 
 session-anew : (s : Session) → IsKept s.plan → HasText s.plan s.rule_text → IsMadeAnew s
-session-anew s k has few left =
-    let p = s.plan in
-    let rows = rows_few p k.numbered in
-    scripts-anew p s.rule_text k.limits.0 (made p k.numbered) (record {
-      cells = all_so CanStand (λ (i : Intervention). 0 < length i.cells) p.interventions (λ i h. h.0) k.stand;
-      distances = all_so CanStand (λ (i : Intervention). IsCounted i.acts) p.interventions (λ i h. h.1) k.stand;
-      start = few;
-      revision = omega (arith, left);
-      revisions = omega (arith, rows, left);
-    }) has
+session-anew s k has few left = grind (arith, all_so, made, rows_few, scripts-anew)
 
 all-anew : (ss : List Session) → AllByRecursion (λ (t : Session). IsKept t.plan) ss
     → AllByRecursion (λ (t : Session). HasText t.plan t.rule_text) ss → AllByRecursion IsMadeAnew ss

@@ -43,12 +43,12 @@ asks-open_text stop at f kept n (line ∷ lines) inside =
 pub asks-command : (stop : End) (n : ℕ) (line : Line) (rest : List Line) → is_passed_over line.says ≡ false
     → format_of line.says ≡ None
     → asks stop Between n (line ∷ rest) ≡ asked_by n (command_of line.says) ∷ asks stop Between (n + 1) rest
-asks-command stop n line rest passed text = rw passed (rw text refl)
+asks-command stop n line rest passed text = grind (arith)
 
 pub asks-text_command : (stop : End) (n : ℕ) (f : Format) (line : Line) (rest : List Line)
     → is_passed_over line.says ≡ false → format_of line.says ≡ Some f
     → asks stop Between n (line ∷ rest) ≡ asks stop (InText n f []) (n + 1) rest
-asks-text_command stop n f line rest passed text = rw passed (rw text refl)
+asks-text_command stop n f line rest passed text = grind (arith)
 
 pub hears-command : (old new : Ahead) (kept : KeptLine) (last : Bool) (r : Request) (n k : ℕ) → k ≡ n
     → (t : LineTaken last old new kept) → is_passed_over t.line.says ≡ false → format_of t.line.says ≡ None
@@ -67,8 +67,7 @@ hears-command old new kept last r n k same t passed text is = record {
 
 -- anything may follow a line that isn't the last
 pub follows-any : (last : Bool) (stop : End) (more : List ℕ) → last ≡ false → Follows last stop more
-follows-any false stop more e = tt
-follows-any true stop more e = absurd (cc)
+follows-any last stop more e = grind (arith)
 
 -- the command of a text
 pub hears-text : (old mid new : Ahead) (format : Format) (kept : KeptLine) (first : Bool) (heard : Option Request)
@@ -102,11 +101,7 @@ breaks-text old mid new format kept first n e t passed text b = record {
 nothing-follows : (stop : End) (n m : ℕ) (format : Format) (more : List ℕ) → Follows true stop more
     → asks stop (InText n format []) m (lines_until stop more) ≡ Refuse (NoEnd n) ∷ asks stop Between m
     (lines_until stop more)
-nothing-follows stop n m format more f =
-    ap (λ v. asks stop (InText n format []) m (lines_until stop v)) f.1
-    ∙ ap (λ s. asks s (InText n format []) m (lines_until s [])) f.0
-    ∙ sym (ap (λ s. Refuse (NoEnd n) ∷ asks s Between m (lines_until s [])) f.0)
-    ∙ sym (ap (λ v. Refuse (NoEnd n) ∷ asks stop Between m (lines_until stop v)) f.1)
+nothing-follows stop n m format more f = grind (arith)
 
 pub hears-last_text : (old new : Ahead) (format : Format) (kept : KeptLine) (last : Bool) (n k : ℕ) → last ≡ true
     → k ≡ n → (t : LineTaken last old new kept) → is_passed_over t.line.says ≡ false
@@ -146,13 +141,7 @@ open-law : (stop : End) (format : Format) (n k m : ℕ) (bytes more : List ℕ) 
     → Follows true stop more
     → asks stop (InText n format []) k (lines_until stop (bytes ++ more)) ≡ Refuse (NoEnd n) ∷ asks stop Between m
     (lines_until stop more)
-open-law stop format n k m bytes more inside f =
-    ap (λ v. asks stop (InText n format []) k (lines_until stop (bytes ++ v))) f.1
-    ∙ ap (λ v. asks stop (InText n format []) k (lines_until stop v)) (append-nil bytes)
-    ∙ ap (λ s. asks s (InText n format []) k (lines_until s bytes)) f.0
-    ∙ asks-open_text Ended n format [] k (lines_until Ended bytes) inside
-    ∙ sym (ap (λ s. Refuse (NoEnd n) ∷ asks s Between m (lines_until s [])) f.0)
-    ∙ sym (ap (λ v. Refuse (NoEnd n) ∷ asks stop Between m (lines_until stop v)) f.1)
+open-law stop format n k m bytes more inside f = grind (arith, append-nil, asks-open_text)
 
 hears-open_text : (format : Format) (old new : Ahead) (n m : ℕ) → NoEndAmong Ended old new → IsAtEnd new.bytes
     → Hears old new (InText n format []) (Some (request.Refuse (NoEnd n))) true (n + 1) m
@@ -187,17 +176,14 @@ breaks-open_text format old new n t = record {
 
 -- what follows from a clause
 pub if_ok_map : {T E : Type 0} (r : Result T E) (P Q : T → Type 0) → ((x : T) → P x → Q x) → IfOk r P → IfOk r Q
-if_ok_map (Ok x) P Q f h = f x h
-if_ok_map (Err e) P Q f h = tt
+if_ok_map r P Q f h = grind (arith)
 
 pub on_err_map : {T E : Type 0} (r : Result T E) (P Q : Type 0) → (P → Q) → OnErr r P → OnErr r Q
-on_err_map (Ok x) P Q f h = tt
-on_err_map (Err e) P Q f h = f h
+on_err_map r P Q f h = grind (arith)
 
 -- a text takes no room back
 pub reads-most : (found : TextFound) (old new : Ahead) (n m : ℕ) → ReadsText found old new n m → new.room ≤ old.room
-reads-most (found_text.Ended text last) old new n m h = omega (arith, h.taken.counted)
-reads-most found_text.NoEnd old new n m h = omega (arith, h.0.taken.counted)
+reads-most found old new n m h = grind (arith)
 
 -- behind a line less can come
 pub falls-behind : {T E : Type 0} (r : Result T E) (P : T → Type 0) (last : Bool) (old mid new : Ahead)

@@ -1,8 +1,7 @@
 -- What is out after jobs were dropped.
-use Rattle.std.proofs.Common.{◌≡◌, ◌≢◌, inl, inr, ℕ, ◌-◌, ◌^◌, ◌<◌, ◌≤◌, Bool, true, false, cond, List, Option, None, Some, IfSome, IfNone, IsSome, ◌==◌, sym, ap, refl, subst, ◌∙◌, arith}
+use Rattle.std.proofs.Common.{◌≡◌, ◌≢◌, ℕ, ◌-◌, ◌^◌, ◌<◌, ◌≤◌, Bool, true, false, cond, List, Option, None, Some, IfSome, IfNone, IsSome, ◌==◌, sym, ap, refl, subst, ◌∙◌, arith}
 use Rattle.std.proofs.lemmas.Bool.Decides.{nat_tests}
 use Rattle.worlds.specs.World.{World}
-use Rattle.schedule.specs.Plan.{opening}
 use Rattle.schedule.specs.Asked.{Asked}
 use Rattle.schedule.specs.declared.document.Bookmark.{Bookmark}
 use Rattle.revision_jobs.specs.declared.entries.Entries.{Entries}
@@ -10,19 +9,19 @@ use Rattle.revision_jobs.specs.declared.answer.Job.{Job}
 use Rattle.revision_jobs.specs.Answer.{JobResult}
 use Rattle.revision_jobs.specs.Value.{pattern, text}
 use Rattle.dependency_book.specs.declared.row.RowState.{RowState}
-use Rattle.dependency_book.specs.declared.row.RowState.TheVariants.{Empty, Expected, Known}
+use Rattle.dependency_book.specs.declared.row.RowState.TheVariants.{Empty, Known}
 use Rattle.desk_events.specs.declared.need.Need.{Need}
 use Rattle.desk_events.specs.declared.need.Need.TheVariants.{Step, View}
 use Rattle.dependency_book.specs.RowState.{job_of, has_number, state_map}
 use Rattle.dependency_book.specs.Jobs.{cancelled, IsFirstOut, SameBook}
 use Rattle.dependency_book.specs.Kept.{KeepsRows, text_kept}
-use Rattle.desk_events.specs.Kept.{keeps_text, stays_mark}
+use Rattle.desk_events.specs.Kept.{stays_mark}
 use Rattle.desk_events.specs.declared.mark.Mark.{Mark}
 use Rattle.schedule.specs.declared.branch.Branch.{Branch}
 use Rattle.dependency_book.specs.Recalled.{Revises}
 use Rattle.desk_core.proofs.Shared.Recalled.{recalls_out}
 use Rattle.desk_events.specs.Marks.{is_start, mark_at}
-use Rattle.dependency_book.specs.BookState.{BookState, given_of, row_of, expected, opened, arrival_row, text_row, pending_of, NothingOut}
+use Rattle.dependency_book.specs.BookState.{BookState, row_of, expected, opened, arrival_row, text_row, pending_of, NothingOut}
 use Rattle.desk_events.specs.Wanted.{bookmark_in}
 use Rattle.desk_core.specs.declared.cause.Cause.{Cause}
 use Rattle.revision_jobs.specs.Posted.{PostView}
@@ -33,43 +32,29 @@ use Rattle.desk_core.proofs.Shared.Given.{same_given}
 
 -- where nothing is dropped
 pub drops_none : (old new : BookState) → new ≡ old → DropsJobs old new
-drops_none old new same = record {
-  table = ap (λ (d : BookState). d.table) same;
-  given = ap given_of same;
-  out = λ need job e. subst (λ (d : BookState). expected d need ≡ Some job) same e;
-}
+drops_none old new same = grind (arith)
 
 pub drops_drops : (a b c : BookState) → DropsJobs a b → DropsJobs b c → DropsJobs a c
-drops_drops a b c f g = record {
-  table = g.table ∙ f.table;
-  given = g.given ∙ f.given;
-  out = λ need job e. f.out need job (g.out need job e);
-}
+drops_drops a b c f g = grind (arith)
 
 -- what is out of a row that was emptied or not
 left_out : {V : Type 0} (b : Bool) (row : RowState V) (job : Job) → job_of (cond b Empty row) ≡ Some job
     → (job_of row ≡ Some job) × (b ≡ false)
-left_out true row job e = absurd (cc)
-left_out false row job e = (e, refl)
+left_out b row job e = grind (arith)
 
 -- cancelling
 cancelled_out : (n : ℕ) (old new : BookState) → ((need : Need) → row_of new need ≡ cancelled n (row_of old need))
     → (need : Need) (job : Job) → expected new need ≡ Some job
     → (expected old need ≡ Some job) × (has_number n (expected old need) ≡ false)
-cancelled_out n old new rows need job e = left_out (has_number n (expected old need)) (row_of old need) job
-    (sym (ap job_of (rows need)) ∙ e)
+cancelled_out n old new rows need job e = grind (arith, left_out)
 
 pub cancel_drops : (n : ℕ) (old new : BookState) → ((need : Need) → row_of new need ≡ cancelled n (row_of old need))
     → SameBook old new → DropsJobs old new
-cancel_drops n old new rows same = record {
-  table = same.document.table;
-  given = same_given same;
-  out = λ need job e. (cancelled_out n old new rows need job e).0;
-}
+cancel_drops n old new rows same = grind (arith, cancelled_out, same_given)
 
 -- the first number that is out rises
 other_number : (n : ℕ) (o : Option Job) (job : Job) → o ≡ Some job → has_number n o ≡ false → (job.number == n) ≡ false
-other_number n o job e h = sym (ap (has_number n) e) ∙ h
+other_number n o job e h = grind (arith)
 
 its_number : (n : ℕ) (o : Option Job) → has_number n o ≡ true → (job : Job) × (o ≡ Some job)
     × ((job.number == n) ≡ true)
@@ -77,19 +62,14 @@ its_number n None h = absurd (cc)
 its_number n (Some job) h = (job, refl, h)
 
 at_least : (n : ℕ) (o : Option Job) (job : Job) → o ≡ Some job → IfSome o (λ other. n ≤ other.number) → n ≤ job.number
-at_least n o job e h = subst (λ v. IfSome v (λ other. n ≤ other.number)) e h
+at_least n o job e h = grind (arith)
 
 above : (n m k : ℕ) → n ≤ k → (k == n) ≡ false → (k == m) ≡ true → n < m
 above n m k few other same = grind (arith, nat_tests)
 
 first_rises : (n m : ℕ) (old new : BookState) → ((need : Need) → row_of new need ≡ cancelled n (row_of old need))
     → IsFirstOut old (Some n) → IsFirstOut new (Some m) → n < m
-first_rises n m old new rows before after =
-    let need = after.0.0 in
-    let its = its_number m (expected new need) after.0.1 in
-    let left = cancelled_out n old new rows need its.0 its.1 in
-    above n m its.0.number (at_least n (expected old need) its.0 left.0 (before.1 need))
-    (other_number n (expected old need) its.0 left.0 left.1) its.2
+first_rises n m old new rows before after = grind (arith, above, at_least, cancelled_out, its_number, other_number)
 
 -- how many numbers are from the first one on
 abbrev pub numbers_from : Option ℕ → ℕ
@@ -105,31 +85,24 @@ some_left n few = omega arith
 pub first_falls : (n : ℕ) (next : Option ℕ) (old new : BookState) → n < 2 ^ 32
     → ((need : Need) → row_of new need ≡ cancelled n (row_of old need)) → IsFirstOut old (Some n) → IsFirstOut new next
     → numbers_from next < numbers_from (Some n)
-first_falls n None old new few rows before after = some_left n few
-first_falls n (Some m) old new few rows before after = fewer n m few (first_rises n m old new rows before after)
+first_falls n next old new few rows before after = grind (arith, fewer, first_rises, some_left)
 
 -- an edit
 out_of_map : {V W : Type 0} (f : V → W) (row : RowState V) → job_of (state_map f row) ≡ job_of row
-out_of_map f Empty = refl
-out_of_map f (Expected job) = refl
-out_of_map f (Known value) = refl
+out_of_map f row = grind (arith)
 
 kept_arrival : (at_start keeps : Bool) (world : World) (row : RowState World) (job : Job)
     → job_of (cond at_start (Known world) (cond keeps row Empty)) ≡ Some job → job_of row ≡ Some job
-kept_arrival true keeps world row job e = absurd (cc)
-kept_arrival false true world row job e = e
-kept_arrival false false world row job e = absurd (cc)
+kept_arrival at_start keeps world row job e = grind (arith)
 
 kept_text : {V : Type 0} (keeps : Bool) (row : RowState V) (job : Job) → job_of (cond keeps row Empty) ≡ Some job
     → job_of row ≡ Some job
-kept_text true row job e = e
-kept_text false row job e = absurd (cc)
+kept_text keeps row job e = grind (arith)
 
 kept_of : {V : Type 0} (branches : List Branch) (felt : Option Mark) (asked : Asked) (bookmark : Option Bookmark)
     (row : RowState V) (job : Job) → job_of (text_kept branches felt asked bookmark row) ≡ Some job
     → job_of row ≡ Some job
-kept_of branches felt asked None row job e = absurd (cc)
-kept_of branches felt asked (Some b) row job e = kept_text (keeps_text branches felt asked b) row job e
+kept_of branches felt asked bookmark row job e = grind (arith, kept_text)
 
 edit_keeps_out : (asked : Asked) (felt : Option Mark) (old new : BookState) → KeepsRows asked felt old new
     → (need : Need) (job : Job) → expected new need ≡ Some job → expected old need ≡ Some job
@@ -153,15 +126,10 @@ edit_drops asked old new h = record {
 
 -- at the beginning
 none_at : (at_start : Bool) (world : World) (job : Job) → job_of (cond at_start (Known world) Empty) ≡ Some job → ⊥
-none_at true world job e = cc
-none_at false world job e = cc
+none_at at_start world job e = grind (arith)
 
 none_opened : (table : Entries) (held : Option Job) → IsHeld held (opened table 0)
-none_opened table held (Step branch g) job e =
-    let m = mark_at branch g in
-    absurd
-    (none_at (is_start m) (opening 0).start job (sym (out_of_map pattern (arrival_row (opened table 0) m)) ∙ e))
-none_opened table held (View id) job e = absurd (cc)
+none_opened table held x2 job e = grind (arith, none_at, out_of_map)
 
 pub carries_first : (post : PostView) (entries : Entries) (d : BookState) → d ≡ opened entries 0 → IsFresh post entries
     → Carries post d
@@ -172,68 +140,43 @@ carries_first post entries d same fresh = rw same (record {
 
 -- where some text isn't known, no job is out
 pub nothing_out : (d : BookState) (n : ℕ) → IsDoneWith d → n ≡ pending_of d → n ≢ 0 → NothingOut d
-nothing_out d n (inl none) is some = absurd (some (is ∙ none))
-nothing_out d n (inr out) is some = out
+nothing_out d n h is some = grind (arith)
 
 -- a post that wasn't touched carries the jobs of a desk that gave no new ones
 carries_same : (post : PostView) (old new : BookState) → DropsJobs old new → Carries post old → CarriesOn post post new
-carries_same post old new drops c = record {
-  limit = refl;
-  kind = refl;
-  carries = record {
-    serves = record {
-      table = c.serves.table ∙ sym drops.table;
-      numbers = subst (λ n. post.floor ≤ n)
-          (sym drops.given) c.serves.numbers;
-    };
-    out = λ e need job x. c.out e need job (drops.out need job x);
-  };
-}
+carries_same post old new drops c = grind (arith)
 
 -- what explained a cause before jobs were given up
 pub causes_kept : (limit : ℕ) (first old new : BookState) (answers : List JobResult) (cause : Option Cause)
     → KeepsCauses old new → IfSome cause (Explains limit first old answers)
     → IfSome cause (Explains limit first new answers)
-causes_kept limit first old new answers None keeps h = tt
-causes_kept limit first old new answers (Some cause) keeps h = keeps limit first answers cause h
+causes_kept limit first old new answers cause keeps h = grind (arith)
 
 -- the cause of a settling, if it has one, is explained
 pub why_explained : (turns : ℕ) (p q : PostView) (old new : BookState) (later : List JobResult) (cause : Option Cause)
     → IsWhy turns p q old new later cause → IfSome cause (Explains p.limit old new later)
-why_explained turns p q old new later None h = tt
-why_explained turns p q old new later (Some cause) h = h.0
+why_explained turns p q old new later cause h = grind (arith)
 
 -- and that a job was stopped is told of a prompt post only where it saw a flag raised
 pub why_stopped : (turns : ℕ) (p q : PostView) (old new : BookState) (later : List JobResult) (cause : Option Cause)
     → IsWhy turns p q old new later cause → IfSome cause (SawStop p q)
-why_stopped turns p q old new later None h = tt
-why_stopped turns p q old new later (Some cause) h = h.1
+why_stopped turns p q old new later cause h = grind (arith)
 
 -- a cause that is told
 pub none_untold : (cause : Option Cause) (fact : Type 0) → IsSome cause → IfNone cause fact
-none_untold None fact some = absurd (cc)
-none_untold (Some cause) fact some = tt
+none_untold cause fact some = grind (arith)
 
 -- a post that serves the desk on carries on
 pub carries_served : (first last : PostView) (old new : BookState) → Carries first old → ServesOn first last old new
     → CarriesOn first last new
-carries_served first last old new c s = record {
-  limit = s.limit;
-  kind = s.kind;
-  carries = record {
-    serves = s.serves;
-    out = λ e. (s.held (record { prompt = sym s.kind ∙ e; held = c.out (sym s.kind ∙ e) })).held;
-  };
-}
+carries_served first last old new c s = grind (arith)
 
 -- what a desk is left with that gave jobs up after a post carried on
 pub carries_on : (first last : PostView) (mid new : BookState) → DropsJobs mid new → CarriesOn first last mid
     → CarriesOn first last new
-carries_on first last mid new drops c =
-    record { limit = c.limit; kind = c.kind; carries = (carries_same last mid new drops c.carries).carries }
+carries_on first last mid new drops c = grind (arith, carries_same)
 
 -- after one command, and then another
 pub carries_further : (first mid last : PostView) (d : BookState) → mid.limit ≡ first.limit
     → mid.is_prompt ≡ first.is_prompt → CarriesOn mid last d → CarriesOn first last d
-carries_further first mid last d limit kind c =
-    record { limit = c.limit ∙ limit; kind = c.kind ∙ kind; carries = c.carries }
+carries_further first mid last d limit kind c = grind (arith)

@@ -1,5 +1,5 @@
 -- The lines of `list`.
-use Rattle.std.proofs.Common.{◌≡◌, ◌∙◌, ℕ, List, [], ◌∷◌, ◌++◌, Option, Some, None, map, length, refl, sym, ap, ap₂, append_assoc, codes}
+use Rattle.std.proofs.Common.{◌≡◌, ◌∙◌, ℕ, List, [], ◌∷◌, ◌++◌, Option, map, length, refl, ap, ap₂, append_assoc, codes, arith}
 use Rattle.std.specs.Prelude.{decimal, flat_map, is_some}
 use Rattle.std.specs.Option.{option_map}
 use Rattle.schedule.specs.declared.acts.Acts.TheVariants.{Once, Every}
@@ -8,7 +8,7 @@ use Rattle.schedule.specs.declared.document.Bookmark.{Bookmark}
 use Rattle.dependency_book.specs.BookState.{BookState}
 use Rattle.dependency_book.specs.ShownRows.{shown_row, shown_rows}
 use Rattle.schedule.specs.declared.branch.Branch.{Branch}
-use Rattle.desk_server.specs.Listed.{acts_words, bookmark_line, branch_line, intervention_line, lines_of, listed_text}
+use Rattle.desk_server.specs.Listed.{bookmark_line, branch_line, intervention_line, lines_of, listed_text}
 use Rattle.desk_server.specs.Told.{has_text, row_line}
 
 -- an intervention that acts once
@@ -19,9 +19,7 @@ pub once-line : (i : Intervention) (generation n : ℕ) → i.acts ≡ Once gene
     ++ (decimal i.branch
     ++ (codes " at " ++ (decimal generation ++ (codes " cells " ++ (decimal n ++ codes "\n")))))))
     ≡ intervention_line i
-once-line i generation n acts count =
-    ap₂ (λ words cells. codes "intervention " ++ (decimal i.id ++ (codes " on " ++ (decimal i.branch
-    ++ (acts_words words ++ (codes " cells " ++ (decimal cells ++ codes "\n"))))))) (sym acts) count
+once-line i generation n acts count = grind (arith)
 
 -- one that repeats
 pub every-line : (i : Intervention) (first every last n : ℕ) → i.acts ≡ Every first every last → n ≡ length i.cells
@@ -34,19 +32,12 @@ pub every-line : (i : Intervention) (first every last n : ℕ) → i.acts ≡ Ev
     ++ (codes " "
     ++ (decimal first ++ (codes " " ++ (decimal last ++ (codes " cells " ++ (decimal n ++ codes "\n")))))))))))
     ≡ intervention_line i
-every-line i first every last n acts count =
-    let rest = codes " cells " ++ (decimal n ++ codes "\n") in
-    ap (λ words. codes "intervention " ++ (decimal i.id ++ (codes " on " ++ (decimal i.branch ++ (codes " every " ++ words)))))
-    (sym (append_assoc (decimal every) (codes " " ++ (decimal first ++ (codes " " ++ decimal last))) rest
-    ∙ ap (λ words. decimal every ++ (codes " " ++ words)) (append_assoc (decimal first) (codes " " ++ decimal last) rest)))
-    ∙ ap₂ (λ words cells. codes "intervention " ++ (decimal i.id ++ (codes " on " ++ (decimal i.branch
-    ++ (acts_words words ++ (codes " cells " ++ (decimal cells ++ codes "\n"))))))) (sym acts) count
+every-line i first every last n acts count = grind (arith, append_assoc)
 
 -- a bookmark with its text, if it has one
 pub row-line : {T : Type 0} (b : Bookmark) (text : T → List ℕ) (o : Option T)
     → row_line (b, option_map text o) ≡ bookmark_line b (is_some o)
-row-line b text None = refl
-row-line b text (Some t) = refl
+row-line b text o = grind (arith)
 
 -- all bookmarks
 pub rows-lines : (d : BookState) (bs : List Bookmark)

@@ -11,13 +11,12 @@ use Rattle.desk_board.specs.Picture.{Picture, IsRight, picture_of}
 use Rattle.desk_board.specs.History.{History, ShowsNext, history, and_then}
 use Rattle.schedule.specs.Plan.{Plan}
 use Rattle.desk_core.specs.Looks.{AreOfPlan, LooksAt, LooksAtEach, LooksOn}
-use Rattle.desk_server.specs.Answer.{Ask, Obey, Take, Refuse, After}
+use Rattle.desk_server.specs.Answer.{Ask, Obey, After}
 use Rattle.desk_server.specs.Heard.{AsksFor, Gives}
 use Rattle.desk_server.specs.Script.{Answered}
 use Rattle.desk_server.specs.Told.{TellsPending, IsRefused, reply_text, ends}
 use Rattle.desk_server.specs.Watch.{HasToCompute, AsksForAnswers, Draws, WatchesComputing, WatchesReply, Moment, moment, NotesOrCounts, NotesReply, NotesEach, WatchesNext, ArePicturesOf, Showing, ShowAnswers, may_compute, pictures_in, is_left_out, ShowsAllUnlessCounted}
 use Rattle.desk_server.specs.declared.command.Command.{Command}
-use Rattle.desk_server.specs.declared.command.Command.TheVariants as command
 use Rattle.desk_server.specs.declared.fault.ScriptFault.{ScriptFault}
 use Rattle.desk_server.specs.declared.format.Format.{Format}
 use Rattle.desk_server.specs.declared.request.Request.{Request}
@@ -36,7 +35,7 @@ draws_none ask d p q same = record { later = []; gave = same ∙ sym (append-nil
 -- where answers are taken, any may be
 pub draws_more : (ask : Ask) (d : BookState) (p q : PostView) (later : List JobResult) → AsksForAnswers ask d
     → q.answers ≡ p.answers ++ later → Draws ask d p q
-draws_more ask d p q later takes gave = record { later = later; gave = gave; none = λ no. absurd (no takes) }
+draws_more ask d p q later takes gave = grind (arith)
 
 module _ {V : Type 0} (notes : V → BookState → V → Type 0) where
   pub notes_join : (a b c : Moment V) (xs ys : List Answered) → NotesEach notes a b xs → NotesEach notes b c ys
@@ -50,56 +49,41 @@ module _ {V : Type 0} (notes : V → BookState → V → Type 0) where
   -- nothing changed
   pub notes_same : (m : ℕ) (p q : PostView) (d : BookState) (a b : V) → q ≡ p → b ≡ a
       → NotesEach notes (moment m p d a) (moment m q d b) []
-  notes_same m p q d a b post same = ap (λ v. moment m v d b) post ∙ ap (moment m p d) same
+  notes_same m p q d a b post same = grind (arith)
 
   -- nobody looked
   pub unwatched : (ask : Ask) (r : Reply) (p q : PostView) (d e : BookState) (a : V) → Draws ask d p q
       → (HasToCompute ask d → IsRefused r) → (ends r ≡ true → q ≡ p) → WatchesReply notes ask r p q d e a a
-  unwatched ask r p q d e a post refused still =
-      record { post = post; looks = inr (refl, refused); bye = λ bye. (still bye, refl) }
+  unwatched ask r p q d e a post refused still = grind (arith)
 
   -- a settling was looked at
   pub watched : (ask : Ask) (r : Reply) (p q : PostView) (d e : BookState) (a b : V) → Draws ask d p q
       → HasToCompute ask d → e.plan ≡ d.plan → LooksOn notes p q d a b → ends r ≡ false
       → WatchesReply notes ask r p q d e a b
-  watched ask r p q d e a b post computes same on goes_on = record {
-    post = post;
-    looks = inl (record { computes = computes; document = same; looks = on });
-    bye = λ bye. absurd (cc (goes_on, bye));
-  }
+  watched ask r p q d e a b post computes same on goes_on = grind (arith)
 
   -- what a request asks
   pub looked_obeyed : (asked : Request) (command : Command) (r : Reply) (p q : PostView) (d e : BookState) (a b : V)
       → asked ≡ request.Obey command → WatchesReply notes (Obey command) r p q d e a b
       → (ask : Ask) → AsksFor asked ask → WatchesReply notes ask r p q d e a b
-  looked_obeyed asked command r p q d e a b is looked ask asks =
-      let one : ask ≡ Obey command = subst (λ v. AsksFor v ask) is asks in
-      subst (λ v. WatchesReply notes v r p q d e a b) (sym one) looked
+  looked_obeyed asked command r p q d e a b is looked ask asks = grind (arith)
 
   pub looked_taken : (asked : Request) (format : Format) (text : Text) (r : Reply) (p : PostView) (d e : BookState)
       (a : V) → asked ≡ request.Take format text
       → (ask : Ask) → AsksFor asked ask → WatchesReply notes ask r p p d e a a
-  looked_taken asked format text r p d e a is ask asks =
-      let one = subst (λ v. AsksFor v ask) is asks in
-      subst (λ v. WatchesReply notes v r p p d e a a) (sym one.1)
-      (unwatched (Take format one.0) r p p d e a (draws_none (Take format one.0) d p p refl) (λ h. absurd h) (λ _. refl))
+  looked_taken asked format text r p d e a is ask asks = grind (arith, draws_none, unwatched)
 
   pub looked_refused : (asked : Request) (fault : ScriptFault) (r : Reply) (p : PostView) (d e : BookState) (a : V)
       → asked ≡ request.Refuse fault
       → (ask : Ask) → AsksFor asked ask → WatchesReply notes ask r p p d e a a
-  looked_refused asked fault r p d e a is ask asks =
-      let one : ask ≡ Refuse fault = subst (λ v. AsksFor v ask) is asks in
-      subst (λ v. WatchesReply notes v r p p d e a a) (sym one)
-      (unwatched (Refuse fault) r p p d e a (draws_none (Refuse fault) d p p refl) (λ h. absurd h) (λ _. refl))
+  looked_refused asked fault r p d e a is ask asks = grind (arith, draws_none, unwatched)
 
   pub looked_none : (r : Reply) (p : PostView) (d e : BookState) (a : V) (asked : Request) → IsRefused r
       → (ask : Ask) → AsksFor asked ask → WatchesReply notes ask r p p d e a a
-  looked_none r p d e a asked refused ask asks =
-      unwatched ask r p p d e a (draws_none ask d p p refl) (λ _. refused) (λ _. refl)
+  looked_none r p d e a asked refused ask asks = grind (arith, draws_none, unwatched)
 
   pub unwatched_next : (a : Moment V) (later : List Answered) → WatchesNext notes a later a.post a.seen
-  unwatched_next a [] = (refl, refl)
-  unwatched_next a (x ∷ xs) = inl (refl, refl)
+  unwatched_next a later = grind (arith)
 
   pub notes_one : (a b : Moment V) (w : V) (ask : Ask) (r : Reply)
       → WatchesReply notes ask r a.post b.post a.desk b.desk a.seen w → TellsPending r b.desk
@@ -112,8 +96,7 @@ module _ {V : Type 0} (notes : V → BookState → V → Type 0) where
 
   -- a count doesn't fall
   count_up : (m n : ℕ) (a b : V) (k : BookState) → m ≤ 2 ^ 64 - 1 → NotesOrCounts notes m n a k b → (m ≤ n) × (n ≤ 2 ^ 64 - 1)
-  count_up m n a b k low (inl f) = let is = f.1 in (omega (arith, is), omega (arith, is, low))
-  count_up m n a b k low (inr f) = let is = f.1 in (omega (arith, is, low), omega (arith, is, low))
+  count_up m n a b k low h1 = grind (arith)
 
   counts_up : (a b : Moment V) (xs : List Answered) → a.missed ≤ 2 ^ 64 - 1 → NotesEach notes a b xs
       → a.missed ≤ b.missed
@@ -125,12 +108,10 @@ module _ {V : Type 0} (notes : V → BookState → V → Type 0) where
 -- one history goes on from another, and a third from that
 goes_over : (old next new : History) (xs ys : List Picture) → next ≡ history old.board (old.pictures ++ xs)
     → new ≡ history next.board (next.pictures ++ ys) → new ≡ history old.board (old.pictures ++ (xs ++ ys))
-goes_over old next new xs ys first more =
-    more ∙ (ap (λ (h : History). history h.board (h.pictures ++ ys)) first
-    ∙ ap (history old.board) (append_assoc old.pictures xs ys))
+goes_over old next new xs ys first more = grind (arith, append_assoc)
 
 goes_nowhere : (old new : History) → new ≡ old → new ≡ history old.board (old.pictures ++ [])
-goes_nowhere old new same = same ∙ sym (ap (history old.board) (append-nil old.pictures))
+goes_nowhere old new same = grind (arith, append-nil)
 
 -- desks with a document were looked at: at most so many pictures of it
 record Seen (plan : Plan) (most : ℕ) (old new : History) : Type 0 where
@@ -169,17 +150,7 @@ record Shown (one : Answered) (p q : PostView) (old new : History) : Type 0 wher
   none : may_compute one.0 ≡ false → seen.pictures ≡ []
 
 cannot : (ask : Ask) (d : BookState) → may_compute ask ≡ false → HasToCompute ask d → ⊥
-cannot (Obey (command.Edit edit)) d idle has = has
-cannot (Obey command.Settle) d idle has = cc
-cannot (Obey command.Work) d idle has = has
-cannot (Obey (command.Show id)) d idle has = cc
-cannot (Obey (command.Peek id)) d idle has = has
-cannot (Obey command.Poll) d idle has = has
-cannot (Obey command.List) d idle has = has
-cannot (Obey command.Script) d idle has = has
-cannot (Obey command.Quit) d idle has = has
-cannot (Take format text) d idle has = has
-cannot (Refuse fault) d idle has = has
+cannot ask d idle has = grind (arith)
 
 shown_before : (one : Answered) (r : Reply) (p q : PostView) (d e : BookState) (old new : History) → Gives one.1 r e
     → WatchesReply ShowsNext one.0 r p q d e old new → Shown one p q old new

@@ -1,5 +1,5 @@
 -- Lines or parts of a reply, one after the other.
-use Rattle.std.proofs.Common.{◌≡◌, ℕ, zero, suc, ◌+◌, ◌<◌, List, [], ◌∷◌, ◌++◌, length, drop, get_or, refl, sym, ap, ◌∙◌, append_assoc, arith, add-one, subst, Option, Result, Ok, Err}
+use Rattle.std.proofs.Common.{◌≡◌, ℕ, zero, suc, ◌+◌, ◌<◌, List, [], ◌∷◌, ◌++◌, length, drop, get_or, refl, sym, ◌∙◌, append_assoc, arith, subst, Option, Result}
 use Rattle.std.specs.Prelude.{flat_map}
 use Rattle.std.proofs.KnownBytes.{Appends-trans}
 use Rattle.std.specs.Io.KnownBytes.{Appends}
@@ -9,8 +9,7 @@ use Rattle.script_lines.proofs.Shared.Told.{IsUnderWay, front_first, front_then}
 -- what was written, and then what a call wrote
 pub wrote_then : {T E : Type 0} (a b c : Option (List ℕ)) (r : Result T E) (xs ys : List ℕ) → Appends a b xs
     → Wrote b c r ys → Wrote a c r (xs ++ ys)
-wrote_then a b c (Ok value) xs ys w h = Appends-trans a b c xs ys w h
-wrote_then a b c (Err fault) xs ys w h = front_then a b c xs ys w h
+wrote_then a b c r xs ys w h = grind (arith, Appends-trans, front_then)
 
 module _ {A : Type 0} (text : A → List ℕ) where
   -- one more was written of those that are left
@@ -25,9 +24,7 @@ module _ {A : Type 0} (text : A → List ℕ) where
   -- a beginning of it was written
   pub broken : (a b c : Option (List ℕ)) (all : List ℕ) (x : A) (rest : List A)
       → IsUnderWay a b all (flat_map text (x ∷ rest)) → AppendsFront b c (text x) → AppendsFront a c all
-  broken a b c all x rest h w = subst (AppendsFront a c) (sym h.split)
-      (front_then a b c h.written (text x ++ flat_map text rest) h.grew
-      (front_first b c (text x) (flat_map text rest) w))
+  broken a b c all x rest h w = grind (arith, front_first, front_then)
 
   -- those that are left begin with the next one
   next_suc : (xs : List A) (k : ℕ) (d : A) → k < length xs
@@ -38,7 +35,7 @@ module _ {A : Type 0} (text : A → List ℕ) where
 
   pub next : (xs : List A) (k : ℕ) (d : A) → k < length xs
       → flat_map text (drop k xs) ≡ flat_map text (get_or xs k d ∷ drop (k + 1) xs)
-  next xs k d h = next_suc xs k d h ∙ ap (λ j. flat_map text (get_or xs k d ∷ drop j xs)) (sym (add-one k))
+  next xs k d h = grind (arith, next_suc)
 
   pub parts_more : (a b c : Option (List ℕ)) (xs : List A) (k : ℕ) (d : A) → k < length xs
       → IsUnderWay a b (flat_map text xs) (flat_map text (drop k xs)) → Appends b c (text (get_or xs k d))

@@ -1,5 +1,5 @@
 -- What a picture shows of what a reply tells.
-use Rattle.std.proofs.Common.{◌≡◌, ◌∙◌, ℕ, ◌+◌, List, [], ◌∷◌, map, refl, sym, ap, subst, arith, cond, Bool, true, false, Option}
+use Rattle.std.proofs.Common.{◌≡◌, ◌∙◌, ℕ, ◌+◌, List, [], ◌∷◌, map, sym, ap, subst, arith, cond, Bool, true, Option}
 use Rattle.std.specs.Prelude.{IsSome, ◌==◌, count_by, not}
 use Rattle.std.specs.List.{AllByRecursion}
 use Rattle.std.proofs.lemmas.Bool.{cond-true}
@@ -29,12 +29,10 @@ abbrev one_if : Bool → ℕ
 one_if b = cond b 1 0
 
 if_known : (b : Bool) → one_if (not b) ≡ 0 → b ≡ true
-if_known true e = refl
-if_known false e = absurd (omega (arith, e))
+if_known b e = grind (arith)
 
 found_later : (test : Bool) (s t : RowState (List ℕ)) → is_known s ≡ true → IsSome (known t) → IsSome (known (cond test s t))
-found_later true s t here there = here
-found_later false s t here there = there
+found_later test s t here there = grind (arith)
 
 each_later : (r : TextRow) (rs : List TextRow) (bs : List Bookmark) → is_known r.state ≡ true
     → AllByRecursion (IsFound rs) bs → AllByRecursion (IsFound (r ∷ rs)) bs
@@ -45,10 +43,7 @@ each_later r rs (b ∷ bs) here found = (
 )
 
 found_here : (r : TextRow) (rs : List TextRow) → is_known r.state ≡ true → IsFound (r ∷ rs) r.key
-found_here r rs here =
-    subst (λ s. IsSome (known s))
-    (sym (cond-true (bookmark_rank r.key == r.key.id) r.state (state_at bookmark_rank r.key.id rs) (grind (arith, nat_tests))))
-    here
+found_here r rs here = grind (arith, cond-true, nat_tests)
 
 each_found : (rows : List TextRow) → count_by is_pending rows ≡ 0 → AllByRecursion (IsFound rows) (keys rows)
 each_found [] none = tt

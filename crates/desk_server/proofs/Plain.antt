@@ -1,5 +1,5 @@
 -- Answers for which nothing is short.
-use Rattle.std.proofs.Common.{◌≡◌, ◌⊎◌, inl, inr, ℕ, zero, suc, ◌&&◌, nat_le, List, [], ◌∷◌, ◌++◌, length, Bool, true, false, cond, refl, ap, ap₂, ◌∙◌, Option, None, Some, codes, arith}
+use Rattle.std.proofs.Common.{◌≡◌, ◌⊎◌, inl, inr, ℕ, zero, suc, ◌&&◌, nat_le, List, [], ◌∷◌, ◌++◌, length, Bool, true, false, cond, refl, ap, ap₂, Option, None, Some, codes, arith}
 use Rattle.std.specs.Prelude.{decimal, flat_map}
 use Rattle.schedule.specs.Plan.{Plan}
 use Rattle.schedule.specs.Asked.{asked_of}
@@ -23,12 +23,7 @@ IsPlain prompt after plain = (after ≡ plain) ⊎ ShowsShortage prompt after.to
 
 unless-plain : (prompt : Bool) (short : Shortage) (p : Plan) (plain : After)
     → IsPlain prompt (unless_memory short p plain) plain
-unless-plain prompt NoShortage p plain = inl refl
-unless-plain prompt Memory p plain = inr (inl refl)
-unless-plain prompt (Unsettled n cause) p plain = inl refl
-unless-plain prompt Pending p plain = inl refl
-unless-plain prompt (Still n cause) p plain = inl refl
-unless-plain prompt (Known known) p plain = inl refl
+unless-plain prompt short p plain = grind (arith)
 
 left-plain : (prompt b : Bool) (p : Plan) (n : ℕ) (cause : Option Cause) → IsCausedOver prompt (Unsettled n cause)
     → IsPlain prompt (cond b (only p (unsettled_text n cause)) (only p settled_text)) (only p settled_text)
@@ -37,13 +32,9 @@ left-plain prompt false p n cause h = inl refl
 
 settled-plain : (prompt : Bool) (short : Shortage) (p : Plan) → IsCausedOver prompt short
     → IsPlain prompt (settled short p) (settled NoShortage p)
-settled-plain prompt NoShortage p h = inl refl
-settled-plain prompt Memory p h = inl refl
 settled-plain prompt (Unsettled n cause) p h =
     left-plain prompt (nat_le 1 n && nat_le n (length p.bookmarks)) p n cause h
-settled-plain prompt Pending p h = inl refl
-settled-plain prompt (Still n cause) p h = inl refl
-settled-plain prompt (Known known) p h = inl refl
+settled-plain prompt short p h = inl refl
 
 still-plain : (prompt b : Bool) (p : Plan) (n : ℕ) (cause : Option Cause)
     → IsPlain prompt (cond b (only p (polled_text n cause)) (only p (polled_text 0 None))) (only p (polled_text 0 None))
@@ -53,21 +44,14 @@ still-plain prompt true p zero (Some cause) = inr (inr (inr (inr (inl (0, Some c
 still-plain prompt true p (suc n) cause = inr (inr (inr (inr (inl (suc n, cause, inl (omega arith), refl)))))
 
 polled-plain : (prompt : Bool) (short : Shortage) (p : Plan) → IsPlain prompt (polled short p) (polled NoShortage p)
-polled-plain prompt NoShortage p = inl refl
-polled-plain prompt Memory p = inl refl
-polled-plain prompt (Unsettled n cause) p = inl refl
-polled-plain prompt Pending p = inl refl
-polled-plain prompt (Still n cause) p = still-plain prompt (nat_le n (length p.bookmarks)) p n cause
-polled-plain prompt (Known known) p = inl refl
+polled-plain prompt short p = grind (arith, still-plain)
 
 -- of two that both hold
 first-known : (v w : Bool) → (v && w) ≡ true → v ≡ true
-first-known true w h = refl
-first-known false w h = absurd (cc)
+first-known v w h = grind (arith)
 
 rest-known : (v w : Bool) → (v && w) ≡ true → w ≡ true
-rest-known true w h = h
-rest-known false w h = absurd (cc)
+rest-known v w h = grind (arith)
 
 -- the lines of bookmarks whose texts are all known
 known-lines : (known : ℕ → Bool) (bs : List Bookmark) → list_all (λ b. known b.id) bs ≡ true
@@ -97,13 +81,7 @@ listed-plain prompt (Known known) p = either (list_all (λ b. known b.id) p.book
 
 shown-plain : (prompt : Bool) (short : Shortage) (p : Plan) (id : ℕ) (b : Option Bookmark)
     → IsPlain prompt (shown short p id b) (shown NoShortage p id b)
-shown-plain prompt short p id None = unless-plain prompt short p (shown NoShortage p id None)
-shown-plain prompt NoShortage p id (Some b) = inl refl
-shown-plain prompt Memory p id (Some b) = inr (inl refl)
-shown-plain prompt (Unsettled n cause) p id (Some b) = inl refl
-shown-plain prompt Pending p id (Some b) = inr (inr (inr (inl (id, refl))))
-shown-plain prompt (Still n cause) p id (Some b) = inl refl
-shown-plain prompt (Known known) p id (Some b) = inl refl
+shown-plain prompt short p id b = grind (arith, unless-plain)
 
 obeyed-plain : (prompt : Bool) (short : Shortage) (s : Session) (command : Command) → IsCausedOver prompt short
     → IsPlain prompt (obeyed short s command) (obeyed NoShortage s command)
@@ -136,28 +114,17 @@ goes_on : (prompt : Bool) (s : Session) (ask : Ask) (after plain : After) (rest 
     ≡ afters (session_after s ask after.plan) rest [])
     → after ∷ cond after.ends [] (afters (session_after s ask after.plan) rest later)
     ≡ plain ∷ cond plain.ends [] (afters (session_after s ask plain.plan) rest [])
-goes_on prompt s ask after plain rest later (inr shows) silent more = absurd (silent shows)
-goes_on prompt s ask after plain rest later (inl same) silent more =
-    ap (λ v. after ∷ v) (ends_or after.ends refl)
-    ∙ ap (λ (a : After). a ∷ cond a.ends [] (afters (session_after s ask a.plan) rest [])) same
-  where
-    ends_or : (b : Bool) → after.ends ≡ b
-        → cond after.ends [] (afters (session_after s ask after.plan) rest later)
-        ≡ cond after.ends [] (afters (session_after s ask after.plan) rest [])
-    ends_or true e = rw e refl
-    ends_or false e = ap (λ v. cond after.ends [] v) (more e)
+goes_on prompt s ask after plain rest later h silent more = grind (arith)
 
 -- none of the replies behind one that doesn't end the script shows a shortage
 none_behind : (prompt ends : Bool) (later : List After) → NoneShows prompt (cond ends [] later) → ends ≡ false
     → NoneShows prompt later
-none_behind prompt true later h e = absurd (cc)
-none_behind prompt false later h e = h
+none_behind prompt ends later h e = grind (arith)
 
 -- the first of shortages that have causes has one, and so do those after it
 first_caused : (shortages : List Shortage) → AllByRecursion IsCaused shortages → IsCaused (first_shortage shortages)
     × AllByRecursion IsCaused (later_shortages shortages)
-first_caused [] h = (tt, tt)
-first_caused (x ∷ xs) h = h
+first_caused shortages h = grind (arith)
 
 pub afters-plain : (prompt : Bool) (s : Session) (asked : List Ask) (shortages : List Shortage)
     → AllCausedOver prompt shortages → NoneShows prompt (afters s asked shortages)

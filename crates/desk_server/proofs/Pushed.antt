@@ -1,5 +1,5 @@
 -- A text that grows by the texts of the elements of a list, one after the other.
-use Rattle.std.proofs.Common.{◌≡◌, ◌∙◌, ℕ, zero, suc, ◌+◌, ◌-◌, ◌<◌, ◌≤◌, List, [], ◌∷◌, ◌++◌, length, drop, get_or, ap, sym, append_assoc, arith, refl, add-one, append-nil, Option, codes, decimal}
+use Rattle.std.proofs.Common.{◌≡◌, ◌∙◌, ℕ, zero, suc, ◌+◌, ◌-◌, ◌<◌, ◌≤◌, List, [], ◌∷◌, ◌++◌, length, drop, get_or, ap, sym, append_assoc, arith, refl, append-nil, Option, codes, decimal}
 use Rattle.std.specs.Prelude.{flat_map}
 use Rattle.std.specs.List.{range_with_len}
 use Rattle.std.proofs.lemmas.List.Concat.{flat_map-append}
@@ -29,10 +29,10 @@ module _ {A : Type 0} (text : A → List ℕ) where
 
 -- the ids from one on, below another
 pub range-more : (a b : ℕ) → a < b → range_with_len a (b - a) ≡ a ∷ range_with_len (a + 1) (b - (a + 1))
-range-more a b low = let e : b - a ≡ suc (b - (a + 1)) = omega arith in ap (range_with_len a) e
+range-more a b low = grind (arith)
 
 range-none : (a b : ℕ) → b ≤ a → range_with_len a (b - a) ≡ []
-range-none a b high = let e : b - a ≡ 0 = omega arith in ap (range_with_len a) e
+range-none a b high = grind (arith)
 
 -- the text of one more of them was added
 pub pushed-more : (text : ℕ → List ℕ) (old now new : List ℕ) (a b : ℕ) (ids : List ℕ) → a < b
@@ -45,10 +45,10 @@ pushed-more text old now new a b ids low is grows =
 
 -- those that are left are those from the next one on, also where there is no number behind the last
 pub range-first : (first last id : ℕ) → first ≡ last + 1 → range_with_len first (id - first) ≡ ids_between last id
-range-first first last id e = ap (λ n. range_with_len n (id - n)) e
+range-first first last id e = grind (arith)
 
 pub range-past : (first last id : ℕ) → id ≤ first → id ≤ last + 1 → range_with_len first (id - first) ≡ ids_between last id
-range-past first last id e f = range-none first id e ∙ sym (range-none (last + 1) id f)
+range-past first last id e f = grind (arith, range-none)
 
 module _ {X : Type 0} (id : X → ℕ) (skip : ℕ → List Asked) (add : X → Asked) where
   -- the edits that add those from the k-th on
@@ -64,10 +64,7 @@ module _ {X : Type 0} (id : X → ℕ) (skip : ℕ → List Asked) (add : X → 
       → add_all id skip add last (drop k xs)
       ≡ flat_map skip (ids_between last (id (get_or xs k d)))
       ++ add (get_or xs k d) ∷ add_all id skip add (id (get_or xs k d)) (drop (k + 1) xs)
-  left-from last xs k d low =
-      left-suc last xs k d low
-      ∙ ap (λ j. flat_map skip (ids_between last (id (get_or xs k d)))
-      ++ add (get_or xs k d) ∷ add_all id skip add (id (get_or xs k d)) (drop j xs)) (sym (add-one k))
+  left-from last xs k d low = grind (arith, left-suc)
 
   -- what is there and the lines of those that are left are what it is to become
   abbrev pub IsAdding : List ℕ → List ℕ → ℕ → List X → List X → Type 0

@@ -192,8 +192,7 @@ first-word b [] = first-byte b [] []
 first-word b (w ∷ ws) = first-byte b w (filter is_word ws)
 
 never : (v : Bool) → (v ≡ true → ⊥) → v ≡ false
-never false h = refl
-never true h = absurd (h refl)
+never v h = grind (arith)
 
 not-end : (b : ℕ) (bs : List ℕ) → (b == 32) ≡ false → b ≢ 101 → is_end (b ∷ bs) ≡ false
 not-end b bs space other =
@@ -280,13 +279,7 @@ macrocell-lines name rows h valid few =
 
 -- the start of a sound document
 narrow : (x y : ℤ) → IsInside (2 ^ 60) x y → IsInside 0 x y
-narrow x y h =
-    let left = h.left in let right = h.right in let top = h.top in let bottom = h.bottom in record {
-      left = grind (arith, ints);
-      right = grind (arith, ints);
-      top = grind (arith, ints);
-      bottom = grind (arith, ints);
-    }
+narrow x y h = grind (arith, ints)
 
 margin : (p : Plan) → IsSound p → HasMargin 0 p.start
 margin p sound x y live = narrow x y (sound.start_inside x y live)

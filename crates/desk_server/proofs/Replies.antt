@@ -1,5 +1,5 @@
 -- What the desk's answers are by the definition of the replies.
-use Rattle.std.proofs.Common.{◌≡◌, ◌≢◌, ◌⊎◌, inl, inr, ℕ, List, Result, Err, ◌≤◌, Option, Some, None, IfNone, length, Bool, true, false, cond, not, ◌==◌, ◌&&◌, refl, sym, ap, ap₂, ◌∙◌, subst, arith, nat_le}
+use Rattle.std.proofs.Common.{◌≡◌, ◌≢◌, ◌⊎◌, inl, inr, ℕ, List, Result, Err, ◌≤◌, Option, Some, None, IfNone, length, Bool, true, false, cond, not, ◌==◌, ◌&&◌, refl, sym, ap, ◌∙◌, subst, arith, nat_le}
 use Rattle.std.specs.Prelude.{IsSome}
 use Rattle.std.proofs.lemmas.Bool.{cond-true}
 use Rattle.std.proofs.lemmas.Bool.Decides.{nat_tests}
@@ -16,7 +16,7 @@ use Rattle.dependency_book.specs.declared.shown.Shown.TheVariants.{Current, NoSu
 use Rattle.dependency_book.specs.declared.shown.Shown.TheVariants as shown
 use Rattle.desk_server.specs.Faults.{Fault, of_edit, of_script}
 use Rattle.desk_server.specs.Shortage.{NoShortage, Memory, Unsettled, Pending, Still}
-use Rattle.desk_server.specs.Answer.{Ask, Obey, Take, Refuse, After, Session, answer, refused, CanLackMemory, only, unless_fault, settled, polled, rule_text_after}
+use Rattle.desk_server.specs.Answer.{Ask, Refuse, After, Session, answer, refused, CanLackMemory, only, unless_fault, settled, polled, rule_text_after}
 use Rattle.desk_server.specs.Answer.{shown as shown_by}
 use Rattle.desk_server.specs.Reply.{pending_text, polled_text, refused_text, settled_text, unsettled_text}
 use Rattle.revision_jobs.specs.Posted.{PostView}
@@ -24,9 +24,7 @@ use Rattle.desk_server.specs.Told.{PollsBy, reply_text, ends, shown_text}
 use Rattle.desk_server.specs.Heard.{AsksFor, Gives, GivesBy, GivesOrLacks, KeepsTaken, KeepsText, Serves, TakesText, kept_text, session}
 use Rattle.script_lines.specs.declared.text.Text.{Text}
 use Rattle.desk_server.specs.declared.fault.ScriptFault.{ScriptFault}
-use Rattle.desk_server.specs.declared.fault.ScriptFault.TheVariants.{BadCommand, NoEnd}
 use Rattle.desk_server.specs.declared.format.Format.{Format}
-use Rattle.desk_server.specs.declared.format.Format.TheVariants as format
 use Rattle.desk_server.specs.declared.command.Command.{Command}
 use Rattle.desk_server.specs.declared.request.Request.{Request}
 use Rattle.desk_server.specs.declared.request.Request.TheVariants as request
@@ -36,10 +34,7 @@ use Rattle.desk_server.specs.declared.reply.Reply.TheVariants as reply
 -- a reply that changes nothing
 pub gives-only : (p : Plan) (new : BookState) (r : Reply) (told : List ℕ) → new.plan ≡ p → reply_text new r ≡ told
     → ends r ≡ false → Gives (only p told) r new
-gives-only p new r told same is goes = ap (λ q. only q told) (sym same) ∙ sym (ap₂ (λ t e. after t e) is goes)
-  where
-    after : List ℕ → Bool → After
-    after t e = record { told = t; plan = new.plan; ends = e }
+gives-only p new r told same is goes = grind (arith)
 
 -- what was refused, or is out of memory
 pub gives-refused : {A E : Type 0} (p : Plan) (new : BookState) (r : Reply) (told : E → Fault) (done : A → After)
@@ -62,9 +57,7 @@ gives-refused p new r told done fault none read law same (inr refused) is goes =
 
 -- settling that left bookmarks pending
 left : (a b : Bool) (x y : After) → a ≡ true → b ≡ true → cond (a && b) x y ≡ x
-left true true x y h k = refl
-left true false x y h k = absurd (cc)
-left false b x y h k = absurd (cc)
+left a b x y h k = grind (arith)
 
 pub gives-unsettled : (prompt : Bool) (p : Plan) (new : BookState) (n : ℕ) (cause : Option Cause) → new.plan ≡ p
     → (prompt ≡ true → IfNone cause (pending_of new ≡ 0)) → n ≡ pending_of new → n ≢ 0 → n ≤ length new.plan.bookmarks
@@ -83,8 +76,7 @@ gives-unsettled prompt p new n cause same caused is some few = (
 
 -- a poll
 still : (a : Bool) (x y : After) → a ≡ true → cond a x y ≡ x
-still true x y h = refl
-still false x y h = absurd (cc)
+still a x y h = grind (arith)
 
 pub gives-polled : (prompt : Bool) (p : Plan) (new : BookState) (n : ℕ) (cause : Option Cause) → new.plan ≡ p
     → n ≤ length new.plan.bookmarks → GivesBy prompt (λ short. polled short p) (reply.Polled n cause) new
@@ -97,14 +89,12 @@ gives-polled prompt p new n cause same few = (
 )
 
 some_of : (o : Option Bookmark) → IsSome o → (b : Bookmark) × (o ≡ Some b)
-some_of None h = absurd (cc)
-some_of (Some b) h = (b, refl)
+some_of o h = grind (arith)
 
 -- what is written of a pending one
 pub pending-shown : (known : BookState) (id : ℕ) → IsPending known id
     → shown_text id (bookmark_in known.plan.bookmarks id) (text_known known id) ≡ pending_text id
-pending-shown known id h = let b = some_of (bookmark_in known.plan.bookmarks id) h.there in
-    ap₂ (shown_text id) b.1 h.unknown
+pending-shown known id h = grind (arith, some_of)
 
 -- what is shown of a bookmark, current or not
 pub gives-shown : (prompt : Bool) (p : Plan) (new : BookState) (id : ℕ) (s : Shown) → new.plan ≡ p → Shows new id s
@@ -123,9 +113,7 @@ gives-shown prompt p new id s same shows =
 
 -- a bookmark that is shown otherwise isn't pending
 pub not_pending : (d : BookState) (id : ℕ) (s : Shown) → Shows d id s → s ≢ shown.Pending → ¬ IsPending d id
-not_pending d id NoSuch none other h = let b = some_of (bookmark_in d.plan.bookmarks id) h.there in cc (none, b.1)
-not_pending d id (Current text) shows other h = cc (shows.known, h.unknown)
-not_pending d id shown.Pending shows other h = other refl
+not_pending d id s none other h = grind (arith, some_of)
 
 -- memory was short for what was asked
 pub serves-memory : (prompt : Bool) (asked : Request) (r : Reply) (d : BookState) (rule : Option (List ℕ))
@@ -144,8 +132,7 @@ none-lacks asked e ask asks = subst (λ q. AsksFor q ask) e asks
 
 plainly_refused : (s : Session) (fault : ScriptFault)
     → answer NoShortage s (Refuse fault) ≡ refused s.plan (of_script fault)
-plainly_refused s (BadCommand line) = refl
-plainly_refused s (NoEnd line) = refl
+plainly_refused s fault = grind (arith)
 
 -- what lines say was refused
 pub serves-refused : (prompt : Bool) (asked : Request) (fault : ScriptFault) (r : Reply) (d : BookState)
@@ -161,16 +148,7 @@ serves-refused prompt asked fault r d rule e is goes = λ ask asks.
 
 -- the script goes on after a poll
 pub polled_goes_on : (p q : PostView) (old new : BookState) (r : Reply) → PollsBy p q old new r → ends r ≡ false
-polled_goes_on p q old new (reply.Accepted revision word number) h = absurd h
-polled_goes_on p q old new reply.Settled h = absurd h
-polled_goes_on p q old new reply.Working h = absurd h
-polled_goes_on p q old new (reply.Unsettled pending cause) h = absurd h
-polled_goes_on p q old new (reply.Shown id) h = absurd h
-polled_goes_on p q old new (reply.Polled pending cause) h = refl
-polled_goes_on p q old new reply.Listed h = absurd h
-polled_goes_on p q old new (reply.Scripted script) h = absurd h
-polled_goes_on p q old new (reply.Refused number name place) h = absurd h
-polled_goes_on p q old new reply.Bye h = absurd h
+polled_goes_on p q old new r h = grind (arith)
 
 -- a text was taken, unless memory was short for it
 pub serves-taken : (prompt : Bool) (asked : Request) (format : Format) (text : Text) (r : Reply) (old new : BookState)
@@ -186,41 +164,26 @@ serves-taken prompt asked format text r old new rule e takes = λ ask asks.
 kept-rule : (b is_taken : Bool) (text : Option (List ℕ)) (bytes : List ℕ) (rule : Option (List ℕ))
     → is_taken ≡ not b → (text ≡ None → b ≡ true) → IsText text bytes
     → cond is_taken text rule ≡ cond b rule (Some bytes)
-kept-rule true is_taken text bytes rule is some says = rw is refl
-kept-rule false is_taken None bytes rule is some says = absurd (cc (some refl))
-kept-rule false is_taken (Some xs) bytes rule is some says = rw is (ap Some says)
+kept-rule b is_taken text bytes rule is some says = grind (arith)
 
 pub kept-taken : (format : Format) (text : Text) (old new : BookState) (rule kept : Option (List ℕ)) (is_taken : Bool)
     → is_taken ≡ not (new.plan.revision == old.plan.revision) → (text ≡ None → new.plan ≡ old.plan)
     → kept ≡ kept_text format is_taken text rule → KeepsTaken format text (session old rule) new kept
-kept-taken format.Rule text old new rule kept is_taken is none keeps = λ bytes says.
-    keeps ∙ kept-rule (new.plan.revision == old.plan.revision) is_taken text bytes rule is
-    (λ e. let same = ap (λ (p : Plan). p.revision) (none e) in grind (arith, nat_tests)) says
-kept-taken format.Rle text old new rule kept is_taken is none keeps = λ bytes says. keeps
-kept-taken format.Macrocell text old new rule kept is_taken is none keeps = λ bytes says. keeps
+kept-taken format text old new rule kept is_taken is none keeps = grind (arith, kept-rule, nat_tests)
 
 -- the text of the rule stays where the document does
 pub rule-same : (s : Session) (ask : Ask) → rule_text_after s ask s.plan ≡ s.rule_text
-rule-same s (Obey command) = refl
-rule-same s (Take format.Rule text) = cond-true (s.plan.revision == s.plan.revision) s.rule_text (Some text)
-    (grind (arith, nat_tests))
-rule-same s (Take format.Rle text) = refl
-rule-same s (Take format.Macrocell text) = refl
-rule-same s (Refuse fault) = refl
+rule-same s ask = grind (arith, cond-true, nat_tests)
 
 pub keeps-same : (asked : Request) (d : BookState) (rule : Option (List ℕ)) → KeepsText asked (session d rule) d rule
-keeps-same asked d rule = λ ask asks. sym (rule-same (session d rule) ask)
+keeps-same asked d rule = grind (arith, rule-same)
 
 -- and with a command
 pub keeps-obeyed : (asked : Request) (command : Command) (s : Session) (d : BookState) → asked ≡ request.Obey command
     → KeepsText asked s d s.rule_text
-keeps-obeyed asked command s d e = λ ask asks.
-    let one : ask ≡ Obey command = subst (λ q. AsksFor q ask) e asks in
-    sym (ap (λ a. rule_text_after s a d.plan) one)
+keeps-obeyed asked command s d e = grind (arith)
 
 pub keeps-taken : (asked : Request) (format : Format) (text : Text) (s : Session) (d : BookState)
     (rule : Option (List ℕ)) → asked ≡ request.Take format text → KeepsTaken format text s d rule
     → KeepsText asked s d rule
-keeps-taken asked format text s d rule e keeps = λ ask asks.
-    let one = subst (λ q. AsksFor q ask) e asks in
-    keeps one.0 one.2 ∙ sym (ap (λ a. rule_text_after s a d.plan) one.1)
+keeps-taken asked format text s d rule e keeps = grind (arith)

@@ -1,5 +1,5 @@
 -- One command after another.
-use Rattle.std.proofs.Common.{◌≡◌, ◌≢◌, ℕ, List, [], ◌∷◌, ◌++◌, Bool, true, false, cond, sym, ◌∙◌, ap, ap₂, refl, append_assoc, append-nil, subst, Option, Some, None, IfSome, inr}
+use Rattle.std.proofs.Common.{◌≡◌, ◌≢◌, ℕ, List, [], ◌∷◌, ◌++◌, Bool, true, false, cond, sym, ◌∙◌, ap, refl, append_assoc, append-nil, subst, Option, Some, None, IfSome, inr, arith}
 use Rattle.std.specs.Prelude.{zip}
 use Rattle.std.proofs.lemmas.List.Concat.{flat_map-append}
 use Rattle.std.proofs.KnownBytes.{Appends-nil, Appends-trans}
@@ -11,7 +11,7 @@ use Rattle.text_lines.specs.Lines.{End, Ended, Broken, lines_until}
 use Rattle.script_lines.specs.Faults.{AppendsFront}
 use Rattle.script_lines.specs.Script.{Follows}
 use Rattle.script_lines.proofs.Shared.Told.{front_first, front_then}
-use Rattle.schedule.specs.Plan.{Plan, opening}
+use Rattle.schedule.specs.Plan.{opening}
 use Rattle.dependency_book.specs.BookState.{BookState}
 use Rattle.std.specs.List.{AllByRecursion}
 use Rattle.desk_server.specs.Shortage.{Shortage, IsCaused, AllCausedOver}
@@ -32,11 +32,7 @@ use Rattle.desk_server.proofs.Noted.{after_of, unwatched_next}
 -- no failure was counted, and then none
 pub works_then : {R W : Type 0} (r s t : LineReading R) (w x y : CountedWriting W) → Works r s w x → Works s t x y
     → Works r t w y
-works_then r s t w x y f g = record {
-  reads = g.reads ∙ f.reads;
-  writes = g.writes ∙ f.writes;
-  flushed = λ h. g.flushed (f.flushed h);
-}
+works_then r s t w x y f g = grind (arith)
 
 -- where each of two lists has causes, both together do
 caused-append : (xs ys : List Shortage) → AllByRecursion IsCaused xs → AllByRecursion IsCaused ys
@@ -45,41 +41,21 @@ caused-append [] ys h k = k
 caused-append (x ∷ xs) ys h k = (h.0, caused-append xs ys h.1 k)
 
 pub ends-other : (r : Reply) → r ≢ reply.Bye → ends r ≡ false
-ends-other (reply.Accepted revision word number) h = refl
-ends-other reply.Settled h = refl
-ends-other reply.Working h = refl
-ends-other (reply.Unsettled pending cause) h = refl
-ends-other (reply.Shown id) h = refl
-ends-other (reply.Polled pending cause) h = refl
-ends-other reply.Listed h = refl
-ends-other (reply.Scripted script) h = refl
-ends-other (reply.Refused number name place) h = refl
-ends-other reply.Bye h = absurd (h refl)
+ends-other r h = grind (arith)
 
 pub bye-ends : (r : Reply) → ends r ≡ true → r ≡ reply.Bye
-bye-ends reply.Bye h = refl
-bye-ends (reply.Accepted revision word number) h = absurd (cc)
-bye-ends reply.Settled h = absurd (cc)
-bye-ends reply.Working h = absurd (cc)
-bye-ends (reply.Unsettled pending cause) h = absurd (cc)
-bye-ends (reply.Shown id) h = absurd (cc)
-bye-ends (reply.Polled pending cause) h = absurd (cc)
-bye-ends reply.Listed h = absurd (cc)
-bye-ends (reply.Scripted script) h = absurd (cc)
-bye-ends (reply.Refused number name place) h = absurd (cc)
+bye-ends r h = grind (arith)
 
 pub goes-on : (r : Reply) → ends r ≡ false → r ≢ reply.Bye
-goes-on r h e = cc (h, e)
+goes-on r h e = grind (arith)
 
 -- nothing is left of what is at its end
 at_end_nil : (new : Option (List ℕ)) (rest : List ℕ) → IsAtEnd new → new ≡ Some rest → rest ≡ []
-at_end_nil None rest h e = absurd (cc)
-at_end_nil (Some x) rest h e = let same : x ≡ rest = cc in sym same ∙ h
+at_end_nil new rest h e = grind (arith)
 
 follows_nothing : (last : Bool) (new : Option (List ℕ)) (rest : List ℕ) → (last ≡ true → IsAtEnd new) → new ≡ Some rest
     → Follows last Ended rest
-follows_nothing false new rest h e = tt
-follows_nothing true new rest h e = (refl, at_end_nil new rest (h refl) e)
+follows_nothing last new rest h e = grind (arith, at_end_nil)
 
 -- one that was answered, with what is left after its reply
 abbrev pub one_of : Ask → BookState → Reply → Answered
@@ -90,17 +66,13 @@ zip_none [] = refl
 zip_none (k ∷ ks) = refl
 
 zip_unless : {K X : Type 0} (b : Bool) (ks : List K) (xs : List X) → zip ks (cond b [] xs) ≡ cond b [] (zip ks xs)
-zip_unless true ks xs = zip_none ks
-zip_unless false ks xs = refl
+zip_unless b ks xs = grind (arith, zip_none)
 
 -- the answer to one command, and those to the rest
 after_is : (short : Shortage) (s : Session) (ask : Ask) (r : Reply) (k : BookState) (t : Option (List ℕ))
     → Gives (answer short s ask) r k → t ≡ rule_text_after s ask k.plan → (rest : List Ask) (later : List Shortage)
     → answered s (ask ∷ rest) (short ∷ later) ≡ one_of ask k r ∷ cond (ends r) [] (answered (session k t) rest later)
-after_is short s ask r k t e kept rest later =
-    ap (λ (a : After). (ask, a) ∷ zip rest (cond a.ends [] (afters (session_after s ask a.plan) rest later))) e
-    ∙ ap (λ v. one_of ask k r ∷ zip rest (cond (ends r) [] (afters (session k v) rest later))) (sym kept)
-    ∙ ap (λ v. one_of ask k r ∷ v) (zip_unless (ends r) rest (afters (session k t) rest later))
+after_is short s ask r k t e kept rest later = grind (arith, zip_unless)
 
 -- of two lists of answers, the texts and those but `bye`
 texts-append : (xs ys : List Answered) → told_to (xs ++ ys) ≡ told_to xs ++ told_to ys
@@ -112,8 +84,7 @@ but_bye-append = flat_map-append unless_bye
 -- the replies are those to each that was answered
 told_unless : (b : Bool) (asked : List Ask) (given : List After) → texts_of given ≡ told_to (zip asked given)
     → texts_of (cond b [] given) ≡ told_to (zip asked (cond b [] given))
-told_unless true asked given same = ap told_to (sym (zip_none {X = After} asked))
-told_unless false asked given same = same
+told_unless b asked given same = grind (arith, zip_none)
 
 replies_told : (p : Session) (asked : List Ask) (shortages : List Shortage)
     → replies_to p asked shortages ≡ told_to (answered p asked shortages)
@@ -127,20 +98,19 @@ replies_told p (ask ∷ rest) shortages =
 -- one answer alone
 wrote_one : (before after : Option (List ℕ)) (ask : Ask) (k : BookState) (r : Reply) → Appends before after (reply_text k r)
     → Appends before after (told_to (one_of ask k r ∷ []))
-wrote_one before after ask k r w = subst (Appends before after) (sym (append-nil (reply_text k r))) w
+wrote_one before after ask k r w = grind (arith, append-nil)
 
 noted_one : (noted : List Answered → Type 0) (ask : Ask) (k : BookState) (r : Reply) → r ≢ reply.Bye
     → noted (one_of ask k r ∷ []) → noted (but_bye (one_of ask k r ∷ []))
-noted_one noted ask k r other h =
-    subst (λ v. noted (cond v [] (one_of ask k r ∷ []) ++ [])) (sym (ends-other r other)) h
+noted_one noted ask k r other h = grind (arith, ends-other)
 
 noted_bye : (noted : List Answered → Type 0) (ask : Ask) (k : BookState) (r : Reply) → r ≡ reply.Bye → noted []
     → noted (but_bye (one_of ask k r ∷ []))
-noted_bye noted ask k r bye h = subst (λ v. noted (cond (ends v) [] (one_of ask k r ∷ []) ++ [])) (sym bye) h
+noted_bye noted ask k r bye h = grind (arith)
 
 -- nothing was asked
 asked_nothing : (heard : Option Request) (asked : List Ask) → heard ≡ None → AsksIfAny heard asked → asked ≡ []
-asked_nothing heard asked e is = subst (λ o. AsksIfAny o asked) e is
+asked_nothing heard asked e is = grind (arith)
 
 pub goes_on_silent : (noted : List Answered → Type 0) (prompt : Bool) (old new : Ahead) (told : Option (List ℕ))
     (heard : Option Request) (last : Bool) (k : Session) (n m : ℕ) → noted [] → heard ≡ None → last ≡ false
@@ -181,8 +151,7 @@ done_silent noted prompt old new told heard last k n m notes none e h = record {
 pub served : (prompt : Bool) (heard : Option Request) (request : Request) (asked : List Ask) (j : Session)
     (k : BookState) (t : Option (List ℕ)) (r : Reply) → heard ≡ Some request → AsksIfAny heard asked
     → Serves prompt request r j k → KeepsText request j k t → Served prompt request r asked j k t
-served prompt heard request asked j k t r e is gives keeps = let one =
-    subst (λ o. AsksIfAny o asked) e is in (one.0, one.1, gives one.0 one.2, one.2, keeps one.0 one.2)
+served prompt heard request asked j k t r e is gives keeps = grind (arith)
 
 -- the answers from here on
 afters_from : (prompt : Bool) (old new : Ahead) (heard : Option Request) (last : Bool) (j : Session) (k : BookState) (t : Option (List ℕ)) (n m : ℕ)
@@ -216,8 +185,7 @@ goes_on_told noted prompt old new before after heard last j k t n m q r e b h s 
 }
 
 nothing_more : (v : Bool) (a : Answered) → a ∷ cond v [] [] ≡ a ∷ []
-nothing_more true a = refl
-nothing_more false a = refl
+nothing_more v a = grind (arith)
 
 -- the last answer, behind which no command is answered
 done_told : (noted : List Answered → Type 0) (prompt : Bool) (old new : Ahead) (before after : Option (List ℕ))
@@ -281,13 +249,11 @@ stops_telling prompt old new before after heard last j k t n m q r h s w = recor
 
 wrote_both : (x y z : Option (List ℕ)) (xs ys : List Answered) → Appends x y (told_to xs) → Appends y z (told_to ys)
     → Appends x z (told_to (xs ++ ys))
-wrote_both x y z xs ys f g =
-    subst (Appends x z) (sym (texts-append xs ys)) (Appends-trans x y z (told_to xs) (told_to ys) f g)
+wrote_both x y z xs ys f g = grind (arith, Appends-trans, texts-append)
 
 notes_both : (first next both : List Answered → Type 0) → ((ps qs : List Answered) → first ps → next qs → both (ps ++ qs))
     → (xs ys : List Answered) → first (but_bye xs) → next (but_bye ys) → both (but_bye (xs ++ ys))
-notes_both first next both join xs ys f g =
-    subst both (sym (but_bye-append xs ys)) (join (but_bye xs) (but_bye ys) f g)
+notes_both first next both join xs ys f g = grind (arith, but_bye-append)
 
 -- what was answered, and then what was answered next
 pub answers_answers : (first next both : List Answered → Type 0) (prompt : Bool) (a b c : Ahead) (x y z : Option (List ℕ))
@@ -375,16 +341,12 @@ answers_none noted prompt a b x p q n notes e same = record {
 }
 
 pub opens : (d : BookState) (t : Option (List ℕ)) → d.plan ≡ opening 0 → t ≡ None → session d t ≡ opening_session
-opens d t plan none = ap₂ (λ p r. opened p r) plan none
-  where
-    opened : Plan → Option (List ℕ) → Session
-    opened p r = record { plan = p; rule_text = r }
+opens d t plan none = grind (arith)
 
 -- so are the replies to a script
 told_script : (x z : Option (List ℕ)) (script : List ℕ) (shortages : List Shortage)
     → Appends x z (told_to (answered_with script shortages)) → Appends x z (replies_with script shortages)
-told_script x z script shortages wrote =
-    subst (Appends x z) (sym (replies_told opening_session (asks Ended Between 1 (lines_until Ended script)) shortages)) wrote
+told_script x z script shortages wrote = grind (arith, replies_told)
 
 -- at the end
 all_finished : {V : Type 0} (notes : V → BookState → V → Type 0) (missed : ℕ) (p q : PostView) (first last : BookState)
@@ -414,15 +376,7 @@ all_told : (prompt : Bool) (a c x z : Option (List ℕ)) (bytes : List ℕ) (giv
     → AllCausedOver prompt shortages → Consumes a c bytes → Appends x z (told_to given)
     → ((rest : List ℕ) → c ≡ Some rest → answered_with (bytes ++ rest) shortages ≡ given)
     → IfSome a (AnswersAll prompt x z)
-all_told prompt None c x z bytes given shortages caused taken wrote law = tt
-all_told prompt (Some script) None x z bytes given shortages caused taken wrote law = absurd taken
-all_told prompt (Some script) (Some rest) x z bytes given shortages caused taken wrote law =
-    let is : given ≡ answered_with script shortages = sym (ap (λ v. answered_with v shortages) taken ∙ law rest refl) in
-    record {
-      shortages = shortages;
-      caused = caused;
-      wrote = told_script x z script shortages (subst (λ v. Appends x z (told_to v)) is wrote);
-    }
+all_told prompt a c x z bytes given shortages caused taken wrote law = grind (arith, told_script)
 
 -- so its run completes, and what was noted of it is known
 pub completed : {R W V : Type 0} (notes : V → BookState → V → Type 0) (missed : ℕ) (p q : PostView)
@@ -444,13 +398,7 @@ front_stopped : (prompt : Bool) (a c x z : Option (List ℕ)) (bytes : List ℕ)
     → AllCausedOver prompt shortages → Consumes a c bytes
     → ((rest : List ℕ) → c ≡ Some rest → AppendsFront x z (replies_with (bytes ++ rest) shortages))
     → IfSome a (AnswersFront prompt x z)
-front_stopped prompt None c x z bytes shortages caused taken law = tt
-front_stopped prompt (Some script) None x z bytes shortages caused taken law = absurd taken
-front_stopped prompt (Some script) (Some rest) x z bytes shortages caused taken law = record {
-  shortages = shortages;
-  caused = caused;
-  wrote = subst (λ v. AppendsFront x z (replies_with v shortages)) (sym taken) (law rest refl);
-}
+front_stopped prompt a c x z bytes shortages caused taken law = grind (arith)
 
 pub stops_front : (prompt : Bool) (a c : Ahead) (x z : Option (List ℕ)) → StopsTelling prompt a c x z opening_session 1
     → IfSome a.bytes (AnswersFront prompt x z)

@@ -1,5 +1,5 @@
 -- The text that is kept is that of the document's rule.
-use Rattle.std.proofs.Common.{◌≡◌, ◌∙◌, ℕ, ◌+◌, ◌==◌, List, [], ◌∷◌, ◌++◌, Bool, true, false, cond, codes, refl, sym}
+use Rattle.std.proofs.Common.{◌≡◌, ◌∙◌, ℕ, ◌+◌, ◌==◌, List, [], ◌∷◌, ◌++◌, Bool, true, false, cond, refl, sym}
 use Rattle.std.proofs.Common.{ap, subst, arith, append-nil, Option, Some, None, Ok}
 use Rattle.std.specs.Prelude.{⊤}
 use Rattle.std.specs.List.{AllByRecursion}
@@ -17,16 +17,12 @@ use Rattle.worlds.specs.World.{World}
 use Rattle.plane_core.specs.declared.loaded.Loaded.{Loaded}
 use Rattle.rule_tree.specs.declared.rule.Rule.{Rule as FileRule}
 use Rattle.rule_tree.specs.Rule.{rule_of}
-use Rattle.schedule.specs.Asked.{Asked, asked_of, ReplaceRule, ReplaceStart, AddBookmark, AddBranch}
-use Rattle.schedule.specs.Asked.{InsertIntervention, InsertRepeat, RemoveBookmark, RemoveBranch, RemoveIntervention}
-use Rattle.schedule.specs.Asked.{ChangeIntervention, ChangeRepeat, SetCells, MoveBookmark}
+use Rattle.schedule.specs.Asked.{Asked, ReplaceRule}
 use Rattle.schedule.specs.Change.{Changed, changed, refusal}
 use Rattle.schedule.specs.Plan.{Plan}
-use Rattle.desk_events.specs.Wanted.{bookmark_in}
 use Rattle.desk_server.specs.declared.fault.ScriptFault.TheVariants.{BadCommand, NoEnd}
 use Rattle.desk_server.specs.declared.format.Format.{Format}
 use Rattle.desk_server.specs.declared.format.Format.TheVariants as format
-use Rattle.desk_server.specs.declared.command.Command.TheVariants as command
 use Rattle.desk_server.specs.declared.command.Command.{Command}
 use Rattle.desk_server.specs.Command.{command_of, format_of}
 use Rattle.desk_server.specs.Faults.{of_macrocell, of_pattern, of_rule, of_script}
@@ -35,9 +31,9 @@ use Rattle.desk_server.specs.Answer.{Ask, Obey, Take, Refuse, Session, answer, e
 use Rattle.desk_server.specs.Answer.{opening_session, refused, rule_text_after, session_after, started, taken}
 use Rattle.desk_server.specs.Script.{Between, InText, Place, asked_at, asked_by, asks, first_shortage}
 use Rattle.desk_server.specs.Script.{later_shortages, place_behind}
-use Rattle.desk_server.specs.Anew.{HasText, IsTextOf, KeptTextsAreRules, sessions}
-use Rattle.desk_server.proofs.OneLine.{Fits, LineFits, TakesNoRule, all-map, any-line, asks-fit, listed-keeps}
-use Rattle.desk_server.proofs.OneLine.{made-keeps, polled-keeps, scripted-keeps, settled-keeps, shown-keeps}
+use Rattle.desk_server.specs.Anew.{HasText, KeptTextsAreRules, sessions}
+use Rattle.desk_server.proofs.OneLine.{Fits, LineFits, TakesNoRule, all-map, any-line, asks-fit}
+use Rattle.desk_server.proofs.OneLine.{made-keeps}
 use Rattle.desk_server.proofs.OneLine.{unless_fault-keeps, unless_memory-keeps}
 use Rattle.desk_server.proofs.Remade.{AreTextLines}
 use Rattle.desk_server.proofs.Replies.{rule-same}
@@ -61,12 +57,10 @@ AreFull (line ∷ []) = ⊤
 AreFull (line ∷ next ∷ rest) = IsFull line × AreFull (next ∷ rest)
 
 full-more : (bytes : List ℕ) (rest : List Line) → NoLineFeed bytes → AreFull rest → AreFull (full_line bytes ∷ rest)
-full-more bytes [] h more = tt
-full-more bytes (next ∷ rest) h more = (record { bytes = bytes; is = refl; whole = h }, more)
+full-more bytes rest h more = grind (arith)
 
 last-full : (bytes : List ℕ) → AreFull (last_line Ended bytes)
-last-full [] = tt
-last-full (b ∷ bs) = tt
+last-full bytes = grind (arith)
 
 from-full : (begun bytes : List ℕ) → NoLineFeed begun → AreFull (lines_from Ended begun bytes)
 from-full begun [] h = last-full begun
@@ -105,18 +99,15 @@ text-more text line h full inside =
     }
 
 rest-full : (line : Line) (rest : List Line) → AreFull (line ∷ rest) → AreFull rest
-rest-full line [] h = tt
-rest-full line (next ∷ rest) h = h.1
+rest-full line rest h = grind (arith)
 
 asked-none : (n : ℕ) (c : Option Command) → AsksText (asked_by n c)
-asked-none n None = tt
-asked-none n (Some c) = tt
+asked-none n c = grind (arith)
 
 unless-last : (at n : ℕ) (f : Format) (text : List ℕ) (line : Line) (rest : List Line) → AreFull (line ∷ rest)
     → (IsFull line → AllByRecursion AsksText (asks Ended (InText at f text) n rest))
     → AllByRecursion AsksText (asks Ended (InText at f text) n rest)
-unless-last at n f text line [] full more = (tt, tt)
-unless-last at n f text line (next ∷ rest) full more = more full.0
+unless-last at n f text line rest full more = grind (arith)
 
 asks-texts : (place : Place) (n : ℕ) (lines : List Line) → BeginsText place → AreFull lines
     → AllByRecursion AsksText (asks Ended place n lines)
@@ -150,47 +141,18 @@ asks-texts (InText at f text) n (line ∷ rest) begun full =
 
 -- where the rule stays, its text does
 text-same : (p q : Plan) (text : Option (List ℕ)) → q.rule ≡ p.rule → HasText p text → HasText q text
-text-same p q None same has = same ∙ has
-text-same p q (Some text) same has = subst (λ (r : FileRule). IsTextOf r text) (sym same) has
+text-same p q text same has = grind (arith)
 
 rule-stays : (p : Plan) (asked : Asked) → TakesNoRule asked → (changed p asked).plan.rule ≡ p.rule
-rule-stays p (InsertIntervention b generation cells) h = refl
-rule-stays p (ChangeIntervention id generation cells) h = refl
-rule-stays p (InsertRepeat b first every last cells) h = refl
-rule-stays p (ChangeRepeat id first every last cells) h = refl
-rule-stays p (RemoveIntervention id) h = refl
-rule-stays p (SetCells cells) h = refl
-rule-stays p (ReplaceStart start) h = refl
-rule-stays p (ReplaceRule rule) h = absurd h
-rule-stays p (AddBookmark b generation view) h = refl
-rule-stays p (MoveBookmark id generation) h = refl
-rule-stays p (RemoveBookmark id) h = refl
-rule-stays p (AddBranch parent generation) h = refl
-rule-stays p (RemoveBranch b) h = refl
+rule-stays p asked h = grind (arith)
 
 -- what a command that takes no rule leaves has the same one
 command-rule : (short : Shortage) (s : Session) (c : Command) → Fits TakesNoRule (Obey c)
     → (obeyed short s c).plan.rule ≡ s.plan.rule
-command-rule short s (command.Edit e) h =
-    let K : Plan → Type 0 = λ q. q.rule ≡ s.plan.rule in
-    unless_memory-keeps K short s.plan (edited s.plan (asked_of e)) refl
-    (made-keeps K s.plan (changed s.plan (asked_of e)) (id_word (asked_of e)) (λ (d : Changed). d.edited.id)
-    (refusal s.plan (asked_of e)) refl (λ free. rule-stays s.plan (asked_of e) h))
-command-rule short s command.Settle h = settled-keeps (λ q. q.rule ≡ s.plan.rule) short s.plan refl
-command-rule short s command.Work h = refl
-command-rule short s (command.Show id) h =
-    shown-keeps (λ q. q.rule ≡ s.plan.rule) short s.plan id (bookmark_in s.plan.bookmarks id) refl
-command-rule short s (command.Peek id) h =
-    shown-keeps (λ q. q.rule ≡ s.plan.rule) short s.plan id (bookmark_in s.plan.bookmarks id) refl
-command-rule short s command.Poll h = polled-keeps (λ q. q.rule ≡ s.plan.rule) short s.plan refl
-command-rule short s command.List h = listed-keeps (λ q. q.rule ≡ s.plan.rule) short s.plan refl
-command-rule short s command.Script h = scripted-keeps (λ q. q.rule ≡ s.plan.rule) short s refl
-command-rule short s command.Quit h = refl
+command-rule short s c h = grind (arith, rule-stays)
 
 start-rule : (p : Plan) (generation : ℕ) (start : World) → (started p generation start).plan.rule ≡ p.rule
-start-rule p generation start =
-    made-keeps (λ q. q.rule ≡ p.rule) p (changed p (ReplaceStart start)) (codes " gen ") (λ (d : Changed). Some generation)
-    (refusal p (ReplaceStart start)) refl (λ free. refl)
+start-rule p generation start = grind (arith)
 
 taken-text : (s : Session) (text : List ℕ) (rule : FileRule) → IsText text → rule_of text ≡ Ok rule
     → HasText (changed s.plan (ReplaceRule rule)).plan

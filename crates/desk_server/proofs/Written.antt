@@ -1,10 +1,10 @@
 -- The rows of a document can be written.
-use Rattle.std.proofs.Common.{◌≡◌, ℕ, zero, suc, ◌+◌, ◌-◌, ◌<◌, ◌≤◌, ◌^◌, ◌*◌, ◌==◌, ◌||◌, ◌&&◌, not, nat_lt, nat_le}
-use Rattle.std.proofs.Common.{ℤ, pos, List, [], ◌∷◌, ◌++◌, length, Bool, true, false, cond, refl, sym, subst, arith}
+use Rattle.std.proofs.Common.{◌≡◌, ℕ, zero, suc, ◌+◌, ◌-◌, ◌<◌, ◌≤◌, ◌^◌, ◌*◌, ◌==◌, ◌||◌, ◌&&◌, nat_lt, nat_le}
+use Rattle.std.proofs.Common.{ℤ, pos, List, [], ◌∷◌, ◌++◌, length, Bool, true, cond, refl, sym, subst, arith}
 use Rattle.std.proofs.Common.{codes, Option, Some, None, Ok, FitsSigned, w64}
 use Rattle.std.specs.Prelude.{IsTrue, flat_map}
 use Rattle.std.specs.Option.{ok_or, option_and_then, option_map}
-use Rattle.std.specs.List.{AllByRecursion, list_all, range_with_len}
+use Rattle.std.specs.List.{AllByRecursion, range_with_len}
 use Rattle.std.proofs.lemmas.Bool.{and_parts, ltb-true}
 use Rattle.std.proofs.lemmas.Bool.Decides.{nat_tests}
 use Rattle.std.proofs.Math.Nat.{le-mul_of_pos_right, mul-le-mul_left}
@@ -13,7 +13,6 @@ use Rattle.basics.proofs.Shared.Lists.{all_append}
 use Rattle.worlds.specs.declared.cell.CellSet.{CellSet}
 use Rattle.worlds.specs.Range.{IsInside}
 use Rattle.bookmarks.specs.declared.view.View.{View}
-use Rattle.bookmarks.specs.declared.view.View.TheVariants as view
 use Rattle.bookmarks.specs.Within.{IsWithin, spans_plane}
 use Rattle.bookmarks.proofs.Places.{area, spanned}
 use Rattle.basics.specs.Results.{◌>>=◌}
@@ -28,7 +27,6 @@ use Rattle.rule_tree.specs.declared.rule.Kind.{Kind}
 use Rattle.rule_tree.specs.NamedRule.{NamedRule}
 use Rattle.rule_tree.specs.Rule.{kind_of, name_of, rule_of, states_of}
 use Rattle.schedule.specs.declared.acts.Acts.{Acts}
-use Rattle.schedule.specs.declared.acts.Acts.TheVariants.{Once, Every}
 use Rattle.schedule.specs.declared.branch.Branch.{Branch}
 use Rattle.schedule.specs.declared.document.Bookmark.{Bookmark}
 use Rattle.schedule.specs.declared.document.Intervention.{Intervention}
@@ -75,27 +73,15 @@ listed (x ∷ xs) b last given there = either (x.id == b) refl (listed xs b last
   where
     either : (v : Bool) → (x.id == b) ≡ v → (has_id branch_id xs b ≡ true → b ≤ last)
         → (v || has_id branch_id xs b) ≡ true → b ≤ last
-    either true e later h =
-        let low : x.id ≤ last = given.0 in
-        let same : x.id ≡ b = grind (arith, nat_tests) in omega (arith, low, same)
-    either false e later h = later h
+    either v e later h = grind (arith, nat_tests, given.0)
 
 there-counts : (branches : List Branch) (b last : ℕ) → AllByRecursion (λ (x : Branch). x.id ≤ last) branches
     → IsCount last → has_branch branches b ≡ true → IsCount b
-there-counts branches b last given small there = either (b == 0) refl there
-  where
-    either : (v : Bool) → (b == 0) ≡ v → (v || has_id branch_id branches b) ≡ true → IsCount b
-    either true e h = let same : b ≡ 0 = grind (arith, nat_tests) in omega (arith, same)
-    either false e h = let low = listed branches b last given h in omega (arith, low, small)
+there-counts branches b last given small there = grind (arith, listed, nat_tests)
 
 -- cells that may be named
 cell-written : (n : ℕ) (c : CellSet) → n ≤ 256 → IsInside (2 ^ 60) c.x c.y → c.state < n → IsWrittenCell c
-cell-written n c few h low =
-    let left = h.left in let right = h.right in let top = h.top in let bottom = h.bottom in record {
-      x = grind (arith, ints);
-      y = grind (arith, ints);
-      state = omega (arith, few, low);
-    }
+cell-written n c few h low = grind (arith, ints)
 
 named-cells : (cs : List CellSet) → AreNamed cs → AllByRecursion (λ (c : CellSet). IsInside (2 ^ 60) c.x c.y) cs
 named-cells [] h = tt
@@ -109,42 +95,22 @@ cells-written n (c ∷ cs) few named below =
 
 insert-written : (b : ℕ) (acts : Acts) (cs : List CellSet) → IsCount b → IsTimely acts → IsCounted acts → AreWritten cs
     → IsWritten (insert b acts cs)
-insert-written b (Once generation) cs small timely counted cells = (small, omega (arith, timely), cells)
-insert-written b (Every first every last) cs small timely counted cells =
-    let low = timely.1 in
-    let near = timely.2 in
-    (small, omega (arith, low, near), counted, omega (arith, near), cells)
+insert-written b acts cs small timely counted cells = grind (arith)
 
 -- a view within its limits
 sides : (w k : ℕ) → IsTrue (nat_lt 0 w && nat_lt 0 k && nat_le (w * k) 65536) → (w < 2 ^ 32) × (k < 2 ^ 32)
-sides w k h =
-    let few = area w k h in
-    let some = and_parts (nat_lt 0 w) (nat_lt 0 k) (and_parts (nat_lt 0 w && nat_lt 0 k) (nat_le (w * k) 65536) h).0 in
-    let wide : 1 ≤ w = ltb-true 0 w some.0 in
-    let high : 1 ≤ k = ltb-true 0 k some.1 in
-    let over : w ≤ w * k = le-mul_of_pos_right w high in
-    let across : k * 1 ≤ k * w = mul-le-mul_left k wide in
-    (omega (arith, few, over), omega (arith, few, across))
+sides w k h = grind (arith, and_parts, area, le-mul_of_pos_right, ltb-true, mul-le-mul_left)
 
 signed-written : (z : ℤ) (n : ℕ) → IsTrue (spans_plane z n) → n < 2 ^ 32 → FitsSigned w64 z
-signed-written z n h small =
-    let span = spanned z n h in
-    let low = span.0 in
-    let high = span.1 in grind (arith, ints)
+signed-written z n h small = grind (arith, ints, spanned)
 
 view-written : (v : View) → IsWithin v → IsWrittenView v
-view-written view.Counts h = tt
-view-written view.Rle h = tt
-view-written view.Macrocell h = tt
-view-written (view.Window left top width height) h =
-    let side = sides width height h.0 in
-    let range = and_parts (spans_plane left width) (spans_plane top height) h.1 in
-    (signed-written left width range.0 side.0, signed-written top height range.1 side.1, side.0, side.1)
+view-written v h = grind (arith, and_parts, sides, signed-written)
 
 -- the branches, bookmarks and interventions of a sound document
 module _ (p : Plan) (sound : IsSound p) (small : IsCount p.revision) where
   last-branch : IsCount p.last_branch
-  last-branch = let low = sound.branches_sound.within in omega (arith, low, small)
+  last-branch = grind (arith)
 
   placed-counts : (b g : ℕ) → IsPlaced p.branches b g → IsCount b
   placed-counts b g h = there-counts p.branches b p.last_branch sound.branches_sound.given last-branch h.there
@@ -226,32 +192,19 @@ rows-written p sound can =
 
 -- the name of a rule that a text means
 name_byte : (b : ℕ) → is_name_byte b ≡ true → IsNameByte b
-name_byte b h = record { low = grind (arith, nat_tests); high = grind (arith, nat_tests); other = λ e. grind (arith, nat_tests) }
+name_byte b h = grind (arith, nat_tests)
 
 name-is : (name : List ℕ) → is_name name ≡ true → IsName name
-name-is name h =
-    let parts = and_parts (not (length name == 0)) (list_all is_name_byte name) h in
-    let some = parts.0 in record {
-      some = grind (arith, nat_tests);
-      bytes = all_tested IsNameByte is_name_byte name name_byte parts.1;
-    }
+name-is name h = grind (arith, all_tested, and_parts, name_byte, nat_tests)
 
 if-named : (o : Option (List ℕ)) (name : List ℕ) → option_and_then (λ n. cond (is_name n) (Some n) None) o ≡ Some name
     → is_name name ≡ true
-if-named None name h = absurd cc
-if-named (Some n) name h = either (is_name n) refl h
-  where
-    either : (v : Bool) → is_name n ≡ v → cond v (Some n) None ≡ Some name → is_name name ≡ true
-    either true e k = let same : n ≡ name = cc in subst (λ m. is_name m ≡ true) same e
-    either false e k = absurd cc
+if-named o name h = grind (arith)
 
 line-named : (v : Bool) (o : Option (List ℕ)) (lines : List NumberedLine) (found : List ℕ × List NumberedLine)
     → ((name : List ℕ) → o ≡ Some name → is_name name ≡ true) → (named lines ≡ Ok found → is_name found.0 ≡ true)
     → cond v (named lines) (ok_or (option_map (λ name. (name, lines)) o) NoRuleLine) ≡ Ok found → is_name found.0 ≡ true
-line-named true o lines found here later h = later h
-line-named false None lines found here later h = absurd cc
-line-named false (Some name) lines found here later h =
-    let same : name ≡ found.0 = cc in subst (λ n. is_name n ≡ true) same (here name refl)
+line-named v o lines found here later h = grind (arith)
 
 named-is : (lines : List NumberedLine) (found : List ℕ × List NumberedLine) → named lines ≡ Ok found
     → is_name found.0 ≡ true
