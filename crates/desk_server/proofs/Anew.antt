@@ -1,10 +1,9 @@
 -- Lines of edits, read back.
 use Rattle.std.proofs.Common.{◌≡◌, ◌∙◌, ℕ, suc, ◌+◌, ◌<◌, ◌≤◌, ◌^◌, ◌-◌, ◌==◌, ℤ, pos, negsuc, List, [], ◌∷◌}
 use Rattle.std.proofs.Common.{◌++◌, length, true, false, codes, decimal, refl, sym, ap, ap₂, append_assoc, append-nil}
-use Rattle.std.proofs.Common.{subst, arith, Option, Some, None, FitsSigned, w64, All}
-use Rattle.std.specs.Prelude.{flat_map, neg_ℤ}
-use Rattle.std.specs.Option.{option_map, option_zip}
-use Rattle.std.specs.Int.{saturate_signed}
+use Rattle.std.proofs.Common.{subst, arith, Some, None, FitsSigned, w64, All}
+use Rattle.std.specs.Prelude.{flat_map}
+use Rattle.std.specs.Option.{option_map}
 use Rattle.std.specs.Fmt.{signed_decimal}
 use Rattle.std.specs.List.{AllByRecursion, list_all}
 use Rattle.std.proofs.lemmas.Int.{ints}
@@ -33,13 +32,11 @@ use Rattle.schedule.specs.Asked.{RemoveBookmark, RemoveBranch, RemoveInterventio
 use Rattle.desk_server.specs.Numbers.{coordinate, up_to}
 use Rattle.desk_server.specs.View.{alone, view_of}
 use Rattle.desk_server.specs.Command.{before, cell_of, cells_of, cells_set, command_of_words, count_of}
-use Rattle.desk_server.specs.Command.{edit_in_named, format_of_words, repeated_by}
+use Rattle.desk_server.specs.Command.{format_of_words}
 use Rattle.desk_server.specs.Listed.{view_words}
 use Rattle.desk_server.specs.Scripted.{cell_words, edit_line}
 use Rattle.desk_server.specs.Script.{Between, asked_by, asks}
 use Rattle.desk_server.specs.Anew.{AreWritten, EditLinesReadBack, IsCount, IsWrittenCell, IsWrittenView, ReadsBack}
-use Rattle.desk_server.specs.declared.interventions.Repeated.{Repeated}
-use Rattle.desk_server.specs.declared.command.Command.{Command}
 use Rattle.desk_server.specs.declared.command.Command.TheVariants as command
 use Rattle.desk_server.proofs.Hearing.{asks-command}
 
@@ -133,19 +130,13 @@ digits-first (d ∷ ds) rest some h =
 reads-signed : (z : ℤ) → FitsSigned w64 z → coordinate (signed_decimal z) ≡ Some z
 reads-signed (pos n) h =
     let wide : IsCount n = grind (arith, ints) in
-    ap (option_map (saturate_signed w64))
-    (ap integer_of (sym (append-nil (decimal n))) ∙ digits-first (decimal n) [] (decimal-some n wide) (decimal-bytes n wide)
-    ∙ ap (λ ds. option_map pos (number_of ds)) (append-nil (decimal n)) ∙ ap (option_map pos) (number_of-decimal n wide))
-    ∙ ap (λ m. Some (pos m)) (grind (arith, ints))
+    grind (arith, ints, digits-first (decimal n) [], decimal-some, decimal-bytes, append-nil, number_of-decimal)
 reads-signed (negsuc n) h =
-    let wide : IsCount (suc n) = grind (arith, ints) in
-    ap (λ o. option_map (saturate_signed w64) (option_map (λ m. neg_ℤ (pos m)) o)) (number_of-decimal (suc n) wide)
-    ∙ ap (λ m. Some (negsuc m)) (grind (arith, ints))
+    let wide : IsCount (suc n) = grind (arith, ints) in grind (arith, ints, number_of-decimal)
 
 -- three words, and what stands behind them
 three : (x y s rest : List ℕ) → (x ++ 32 ∷ (y ++ 32 ∷ s)) ++ rest ≡ x ++ 32 ∷ (y ++ 32 ∷ (s ++ rest))
-three x y s rest =
-    append_assoc x (32 ∷ (y ++ 32 ∷ s)) rest ∙ ap (λ v. x ++ 32 ∷ v) (append_assoc y (32 ∷ s) rest)
+three x y s rest = grind (arith, append_assoc)
 
 -- cells
 abbrev words_of_cells : List CellSet → List (List ℕ)
@@ -234,8 +225,7 @@ branch-line parent generation h k =
     (line-more (codes "branch") _ _ (letters (codes "branch") (omega arith) refl)
     (line-more (decimal parent) _ _ (number parent h) (line-last (decimal generation) (number generation k))))
     refl refl refl
-    (ap₂ (λ p g. option_map command.Edit (option_map (λ r. edit.AddBranch r.0 r.1) (option_zip p (alone g []))))
-    (counts parent h) (counts generation k))
+    (grind (arith, counts))
 
 -- a line of a word and an id
 id-line : (asked : Asked) (word : List ℕ) (id : ℕ) (e : Edit) → edit_line asked ≡ word ++ 32 ∷ (decimal id ++ 10 ∷ [])
@@ -301,9 +291,7 @@ bookmark-line b generation v h k w =
     (line-more (codes "mark") _ _ (letters (codes "mark") (omega arith) refl)
     (line-more (decimal generation) _ _ (number generation k) (view-line v w)))))
     refl refl refl
-    (ap (λ o. option_map command.Edit (edit_in_named o (codes "mark" ∷ decimal generation ∷ view_words_of v))) (counts b h)
-    ∙ ap₂ (λ g x. option_map command.Edit (option_map (λ r. edit.AddBookmark b r.0 r.1) (option_zip g x)))
-    (counts generation k) (view-read v w))
+    (grind (arith, counts, view-read))
 
 -- what is inserted
 once-line : (b generation : ℕ) (cs : List CellSet) → IsCount b → IsCount generation → AreWritten cs
@@ -317,10 +305,7 @@ once-line b generation cs h k w =
     (line-more (codes "at") _ _ (letters (codes "at") (omega arith) refl)
     (line-more (decimal generation) _ _ (number generation k) (set-line cs w)))))
     refl refl refl
-    (ap (λ o. option_map command.Edit
-    (edit_in_named o (codes "at" ∷ decimal generation ∷ codes "set" ∷ words_of_cells cs))) (counts b h)
-    ∙ ap₂ (λ g x. option_map command.Edit (option_map (λ r. edit.InsertIntervention b r.0 r.1) (option_zip g x)))
-    (counts generation k) (set-read cs w))
+    (grind (arith, counts, set-read))
 
 every-line : (b first every last : ℕ) (cs : List CellSet) → IsCount b → IsCount first → IsCount every → IsCount last
     → AreWritten cs → ReadsBack (InsertRepeat b first every last cs)
@@ -339,15 +324,7 @@ every-line b first every last cs h i j k w =
     (line-more (decimal first) _ _ (number first i)
     (line-more (decimal last) _ _ (number last k) (set-line cs w))))))))
     refl refl refl
-    (ap (λ o. option_map command.Edit (edit_in_named o (codes "every" ∷ decimal every ∷ decimal first ∷ decimal last
-    ∷ codes "set" ∷ words_of_cells cs))) (counts b h)
-    ∙ ap₂ (λ e f. inserted e (option_zip f (option_zip (count_of (decimal last)) (cells_set (codes "set" ∷ words_of_cells cs)))))
-    (counts every j) (counts first i)
-    ∙ ap₂ (λ l x. inserted (Some every) (option_zip (Some first) (option_zip l x))) (counts last k) (set-read cs w))
-  where
-    inserted : Option ℕ → Option (ℕ × (ℕ × List CellSet)) → Option Command
-    inserted e o = option_map command.Edit (option_map (λ (r : Repeated). edit.InsertRepeat b r.first r.every r.last r.cells)
-        (option_map repeated_by (option_zip e o)))
+    (grind (arith, counts, set-read))
 
 pub edit-lines : EditLinesReadBack
 edit-lines x0 h = grind (arith, bookmark-line, branch-line, drop-line, every-line, once-line, unbranch-line, unmark-line)

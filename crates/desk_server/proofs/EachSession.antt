@@ -1,9 +1,8 @@
 -- What is written in each session of a script makes its document anew.
-use Rattle.std.proofs.Common.{◌<◌, ◌==◌, not, List, [], ◌∷◌, length, Bool, true, false, cond, arith}
-use Rattle.std.specs.Prelude.{⊤}
+use Rattle.std.proofs.Common.{◌<◌, ◌==◌, not, List, [], ◌∷◌, length, arith}
 use Rattle.std.specs.List.{AllByRecursion}
 use Rattle.basics.proofs.Shared.Lists.{all_append, all_so}
-use Rattle.text_lines.specs.Lines.{Ended, Line, lines_until}
+use Rattle.text_lines.specs.Lines.{Ended, lines_until}
 use Rattle.schedule.specs.declared.acts.Acts.TheVariants.{Once, Every}
 use Rattle.schedule.specs.declared.document.Intervention.{Intervention}
 use Rattle.schedule.specs.Asked.{Asked, InsertIntervention}
@@ -14,14 +13,13 @@ use Rattle.schedule.specs.Plan.{Plan, opening}
 use Rattle.schedule.proofs.Shared.Changed.{HasStates}
 use Rattle.schedule.proofs.Shared.Ids.{each_filter, each_map}
 use Rattle.document_replay.proofs.Shared.Made.{IsNumbered, made, numbered_opening, numbered_step, rows_few}
-use Rattle.desk_server.specs.Shortage.{Shortage}
-use Rattle.desk_server.specs.Answer.{Ask, Session, answer, opening_session, session_after}
-use Rattle.desk_server.specs.Script.{Between, asks, first_shortage, later_shortages}
+use Rattle.desk_server.specs.Answer.{Session, opening_session}
+use Rattle.desk_server.specs.Script.{Between, asks}
 use Rattle.desk_server.specs.Anew.{HasText, IsCounted, IsMadeAnew, WhateverIsScriptedIsMadeAnew, sessions}
-use Rattle.desk_server.proofs.OneLine.{Fits, KeepsLimits, LineFits, SetsSome, Stays, all-map, answer-keeps, any-line}
+use Rattle.desk_server.proofs.OneLine.{Fits, KeepsLimits, LineFits, SetsSome, Stays, answer-keeps, each-line}
 use Rattle.desk_server.proofs.OneLine.{asks-fit, limits-stay, opening-keeps}
 use Rattle.desk_server.proofs.Remade.{scripts-anew}
-use Rattle.desk_server.proofs.RuleTexts.{kept-texts}
+use Rattle.desk_server.proofs.RuleTexts.{kept-texts, sessions-keep}
 
 -- an intervention that can be written
 abbrev CanStand : Intervention → Type 0
@@ -67,23 +65,6 @@ kept-stays = record {
 opening-kept : IsKept (opening 0)
 opening-kept = record { limits = opening-keeps; numbered = numbered_opening 0; stand = tt }
 
--- so it is in each session
-sessions-keep : (s : Session) (asked : List Ask) (shortages : List Shortage) → AllByRecursion (Fits IsSuch) asked
-    → IsKept s.plan → AllByRecursion (λ (t : Session). IsKept t.plan) (sessions s asked shortages)
-sessions-keep s [] shortages fits k = (k, tt)
-sessions-keep s (ask ∷ rest) shortages fits k =
-    let after = answer (first_shortage shortages) s ask in (
-      k,
-      goes-on after.ends (sessions (session_after s ask after.plan) rest (later_shortages shortages))
-          (sessions-keep (session_after s ask after.plan) rest (later_shortages shortages) fits.1
-          (answer-keeps IsKept IsSuch kept-stays (first_shortage shortages) s ask fits.0 k)),
-    )
-  where
-    goes-on : (v : Bool) (later : List Session) → AllByRecursion (λ (t : Session). IsKept t.plan) later
-        → AllByRecursion (λ (t : Session). IsKept t.plan) (cond v [] later)
-    goes-on true later h = tt
-    goes-on false later h = h
-
 session-anew : (s : Session) → IsKept s.plan → HasText s.plan s.rule_text → IsMadeAnew s
 session-anew s k has few left = grind (arith, all_so, made, rows_few, scripts-anew)
 
@@ -97,8 +78,8 @@ scripted-anew script shortages =
     let lines = lines_until Ended script in
     let asked = asks Ended Between 1 lines in
     all-anew (sessions opening_session asked shortages)
-    (sessions-keep opening_session asked shortages
-    (asks-fit IsSuch Ended Between 1 lines
-    (all-map (λ (line : Line). ⊤) (LineFits IsSuch) lines (λ line e a said. (said.states, said.rows)) (any-line lines)))
+    (sessions-keep (λ (t : Session). IsKept t.plan) (Fits IsSuch)
+    (λ short s ask fits k. answer-keeps IsKept IsSuch kept-stays short s ask fits k) opening_session asked shortages
+    (asks-fit IsSuch Ended Between 1 lines (each-line (LineFits IsSuch) (λ line a said. (said.states, said.rows)) lines))
     opening-kept)
     (kept-texts script shortages)

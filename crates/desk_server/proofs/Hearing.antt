@@ -1,5 +1,5 @@
 -- What lines ask.
-use Rattle.std.proofs.Common.{◌≡◌, ℕ, ◌+◌, List, [], ◌∷◌, ◌++◌, length, Bool, true, false, sym, ◌∙◌, ap, refl, append_assoc, append-nil, arith, subst, ◌<◌, ◌≤◌, OnOk, Option, None, Some, Result, Ok, Err, IfOk, OnErr}
+use Rattle.std.proofs.Common.{◌≡◌, ℕ, ◌+◌, List, [], ◌∷◌, ◌++◌, length, Bool, true, false, sym, ap, refl, append_assoc, append-nil, arith, subst, ◌<◌, ◌≤◌, OnOk, Option, None, Some, Result, Ok, Err, IfOk, OnErr}
 use Rattle.script_lines.specs.Ahead.{Ahead}
 use Rattle.script_lines.proofs.Shared.Ahead.{takes_then}
 use Rattle.script_lines.proofs.Shared.Taking.{line_falls}
@@ -24,21 +24,16 @@ pub asks-text : (stop : End) (at : ℕ) (f : Format) (kept : List ℕ) (n : ℕ)
     (rest : List Line) → NoneEnds lines → is_end closing.says ≡ true
     → asks stop (InText at f kept) n (lines ++ closing ∷ rest) ≡ Take f (kept ++ raw_bytes lines) ∷ asks stop Between
     (n + length lines + 1) rest
-asks-text stop at f kept n [] closing rest inside ends =
-    rw ends (ap (λ t. Take f t ∷ asks stop Between (n + 1) rest) (sym (append-nil kept))
-    ∙ ap (λ m. Take f (kept ++ []) ∷ asks stop Between m rest) (omega arith))
+asks-text stop at f kept n [] closing rest inside ends = grind (arith, append-nil)
 asks-text stop at f kept n (line ∷ lines) closing rest inside ends =
-    rw inside.0 (asks-text stop at f (kept ++ line.raw) (n + 1) lines closing rest inside.1 ends
-    ∙ ap (λ t. Take f t ∷ asks stop Between (n + 1 + length lines + 1) rest)
-    (append_assoc kept line.raw (raw_bytes lines))
-    ∙ ap (λ m. Take f (kept ++ (line.raw ++ raw_bytes lines)) ∷ asks stop Between m rest) (omega arith))
+    grind (arith, append_assoc, asks-text stop at f (kept ++ line.raw) (n + 1) lines closing rest inside.1 ends)
 
 -- where none is `end`, the text has no end
 asks-open_text : (stop : End) (at : ℕ) (f : Format) (kept : List ℕ) (n : ℕ) (lines : List Line) → NoneEnds lines
     → asks stop (InText at f kept) n lines ≡ without_end stop at
 asks-open_text stop at f kept n [] inside = refl
 asks-open_text stop at f kept n (line ∷ lines) inside =
-    rw inside.0 (asks-open_text stop at f (kept ++ line.raw) (n + 1) lines inside.1)
+    grind (arith, asks-open_text stop at f (kept ++ line.raw) (n + 1) lines inside.1)
 
 pub asks-command : (stop : End) (n : ℕ) (line : Line) (rest : List Line) → is_passed_over line.says ≡ false
     → format_of line.says ≡ None
@@ -57,10 +52,7 @@ hears-command old new kept last r n k same t passed text is = record {
   bytes = t.line.raw;
   asked = asked_by k (command_of t.line.says) ∷ [];
   taken = t.taken;
-  law = λ stop more f.
-      ap (asks stop Between n) (t.law stop more f)
-      ∙ asks-command stop n t.line (lines_until stop more) passed text
-      ∙ ap (λ v. asked_by v (command_of t.line.says) ∷ asks stop Between (n + 1) (lines_until stop more)) (sym same);
+  law = λ stop more f. grind (arith, asks-command, t.law stop more f);
   is = (asked_by k (command_of t.line.says), refl, is);
   at_end = t.at_end;
 }
@@ -78,11 +70,7 @@ hears-text old mid new format kept first heard last n m e t passed text h = reco
   bytes = t.line.raw ++ h.bytes;
   asked = h.asked;
   taken = takes_then old mid new t.line.raw h.bytes t.taken h.taken;
-  law = λ stop more f.
-      ap (λ v. asks stop Between n (lines_until stop v)) (append_assoc t.line.raw h.bytes more)
-      ∙ ap (asks stop Between n) (t.law stop (h.bytes ++ more) (follows-any first stop (h.bytes ++ more) e))
-      ∙ asks-text_command stop n format t.line (lines_until stop (h.bytes ++ more)) passed text
-      ∙ h.law stop more f;
+  law = λ stop more f. grind (arith, append_assoc, follows-any, asks-text_command, t.law, h.law stop more f);
   is = h.is;
   at_end = h.at_end;
 }
@@ -93,8 +81,7 @@ pub breaks-text : (old mid new : Ahead) (format : Format) (kept : KeptLine) (fir
 breaks-text old mid new format kept first n e t passed text b = record {
   bytes = t.line.raw ++ b.bytes;
   taken = takes_then old mid new t.line.raw b.bytes t.taken b.taken;
-  law = ap (asks Broken Between n) (t.law Broken b.bytes (follows-any first Broken b.bytes e))
-      ∙ asks-text_command Broken n format t.line (lines_until Broken b.bytes) passed text ∙ b.law;
+  law = grind (arith, follows-any, asks-text_command, t.law, b.law);
 }
 
 -- nothing follows the command of a text
@@ -111,10 +98,7 @@ hears-last_text old new format kept last n k e same t passed text = record {
   bytes = t.line.raw;
   asked = Refuse (NoEnd n) ∷ [];
   taken = t.taken;
-  law = λ stop more f.
-      ap (asks stop Between n) (t.law stop more f) ∙ asks-text_command stop n format t.line
-      (lines_until stop more) passed text
-      ∙ nothing-follows stop n (n + 1) format more (subst (λ v. Follows v stop more) e f);
+  law = λ stop more f. grind (arith, asks-text_command, nothing-follows, t.law stop more f);
   is = (Refuse (NoEnd n), refl, ap (λ v. Refuse (NoEnd v)) (sym same));
   at_end = t.at_end;
 }
@@ -127,11 +111,7 @@ hears-whole_text format text old new last n m t = record {
   bytes = raw_bytes t.lines ++ t.closing.raw;
   asked = Take format (raw_bytes t.lines) ∷ [];
   taken = t.taken;
-  law = λ stop more f.
-      ap (asks stop (InText n format []) (n + 1)) (t.law stop more f)
-      ∙ asks-text stop n format [] (n + 1) t.lines t.closing (lines_until stop more) t.inside t.ends
-      ∙ ap (λ k. Take format (raw_bytes t.lines) ∷ asks stop Between k (lines_until stop more))
-      (omega (arith, t.number));
+  law = λ stop more f. grind (arith, asks-text, t.law stop more f, t.inside, t.ends, t.number);
   is = (Take format (raw_bytes t.lines), refl, (raw_bytes t.lines, refl, t.is));
   at_end = t.at_end;
 }

@@ -1,5 +1,5 @@
 -- What is out after jobs were dropped.
-use Rattle.std.proofs.Common.{◌≡◌, ◌≢◌, ℕ, ◌-◌, ◌^◌, ◌<◌, ◌≤◌, Bool, true, false, cond, List, Option, None, Some, IfSome, IfNone, IsSome, ◌==◌, sym, ap, refl, subst, ◌∙◌, arith}
+use Rattle.std.proofs.Common.{◌≡◌, ◌≢◌, ℕ, ◌-◌, ◌^◌, ◌<◌, ◌≤◌, Bool, true, false, cond, List, Option, None, Some, IfSome, IfNone, IsSome, ◌==◌, sym, ap, refl, subst, arith}
 use Rattle.std.proofs.lemmas.Bool.Decides.{nat_tests}
 use Rattle.worlds.specs.World.{World}
 use Rattle.schedule.specs.Asked.{Asked}
@@ -7,7 +7,6 @@ use Rattle.schedule.specs.declared.document.Bookmark.{Bookmark}
 use Rattle.revision_jobs.specs.declared.entries.Entries.{Entries}
 use Rattle.revision_jobs.specs.declared.answer.Job.{Job}
 use Rattle.revision_jobs.specs.Answer.{JobResult}
-use Rattle.revision_jobs.specs.Value.{pattern, text}
 use Rattle.dependency_book.specs.declared.row.RowState.{RowState}
 use Rattle.dependency_book.specs.declared.row.RowState.TheVariants.{Empty, Known}
 use Rattle.desk_events.specs.declared.need.Need.{Need}
@@ -15,14 +14,12 @@ use Rattle.desk_events.specs.declared.need.Need.TheVariants.{Step, View}
 use Rattle.dependency_book.specs.RowState.{job_of, has_number, state_map}
 use Rattle.dependency_book.specs.Jobs.{cancelled, IsFirstOut, SameBook}
 use Rattle.dependency_book.specs.Kept.{KeepsRows, text_kept}
-use Rattle.desk_events.specs.Kept.{stays_mark}
 use Rattle.desk_events.specs.declared.mark.Mark.{Mark}
 use Rattle.schedule.specs.declared.branch.Branch.{Branch}
 use Rattle.dependency_book.specs.Recalled.{Revises}
 use Rattle.desk_core.proofs.Shared.Recalled.{recalls_out}
-use Rattle.desk_events.specs.Marks.{is_start, mark_at}
-use Rattle.dependency_book.specs.BookState.{BookState, row_of, expected, opened, arrival_row, text_row, pending_of, NothingOut}
-use Rattle.desk_events.specs.Wanted.{bookmark_in}
+use Rattle.desk_events.specs.Marks.{mark_at}
+use Rattle.dependency_book.specs.BookState.{BookState, row_of, expected, opened, pending_of, NothingOut}
 use Rattle.desk_core.specs.declared.cause.Cause.{Cause}
 use Rattle.revision_jobs.specs.Posted.{PostView}
 use Rattle.desk_core.specs.Settling.{Explains, IsHeld, IsWhy, SawStop, ServesOn}
@@ -53,39 +50,24 @@ pub cancel_drops : (n : ℕ) (old new : BookState) → ((need : Need) → row_of
 cancel_drops n old new rows same = grind (arith, cancelled_out, same_given)
 
 -- the first number that is out rises
-other_number : (n : ℕ) (o : Option Job) (job : Job) → o ≡ Some job → has_number n o ≡ false → (job.number == n) ≡ false
-other_number n o job e h = grind (arith)
-
 its_number : (n : ℕ) (o : Option Job) → has_number n o ≡ true → (job : Job) × (o ≡ Some job)
     × ((job.number == n) ≡ true)
 its_number n None h = absurd (cc)
 its_number n (Some job) h = (job, refl, h)
 
-at_least : (n : ℕ) (o : Option Job) (job : Job) → o ≡ Some job → IfSome o (λ other. n ≤ other.number) → n ≤ job.number
-at_least n o job e h = grind (arith)
-
-above : (n m k : ℕ) → n ≤ k → (k == n) ≡ false → (k == m) ≡ true → n < m
-above n m k few other same = grind (arith, nat_tests)
-
 first_rises : (n m : ℕ) (old new : BookState) → ((need : Need) → row_of new need ≡ cancelled n (row_of old need))
     → IsFirstOut old (Some n) → IsFirstOut new (Some m) → n < m
-first_rises n m old new rows before after = grind (arith, above, at_least, cancelled_out, its_number, other_number)
+first_rises n m old new rows before after = grind (arith, nat_tests, cancelled_out, its_number)
 
 -- how many numbers are from the first one on
 abbrev pub numbers_from : Option ℕ → ℕ
 numbers_from None = 0
 numbers_from (Some n) = 2 ^ 32 - n
 
-fewer : (n m : ℕ) → n < 2 ^ 32 → n < m → 2 ^ 32 - m < 2 ^ 32 - n
-fewer n m few rises = omega arith
-
-some_left : (n : ℕ) → n < 2 ^ 32 → 0 < 2 ^ 32 - n
-some_left n few = omega arith
-
 pub first_falls : (n : ℕ) (next : Option ℕ) (old new : BookState) → n < 2 ^ 32
     → ((need : Need) → row_of new need ≡ cancelled n (row_of old need)) → IsFirstOut old (Some n) → IsFirstOut new next
     → numbers_from next < numbers_from (Some n)
-first_falls n next old new few rows before after = grind (arith, fewer, first_rises, some_left)
+first_falls n next old new few rows before after = grind (arith, first_rises)
 
 -- an edit
 out_of_map : {V W : Type 0} (f : V → W) (row : RowState V) → job_of (state_map f row) ≡ job_of row
@@ -106,15 +88,8 @@ kept_of branches felt asked bookmark row job e = grind (arith, kept_text)
 
 edit_keeps_out : (asked : Asked) (felt : Option Mark) (old new : BookState) → KeepsRows asked felt old new
     → (need : Need) (job : Job) → expected new need ≡ Some job → expected old need ≡ Some job
-edit_keeps_out asked felt old new keeps (Step branch g) job e =
-    let m = mark_at branch g in
-    out_of_map pattern (arrival_row old m)
-    ∙ kept_arrival (is_start m) (stays_mark felt old.plan new.plan m) new.plan.start (arrival_row old m) job
-    (sym (ap job_of (keeps.arrivals m)) ∙ (sym (out_of_map pattern (arrival_row new m)) ∙ e))
-edit_keeps_out asked felt old new keeps (View id) job e =
-    out_of_map text (text_row old id)
-    ∙ kept_of new.plan.branches felt asked (bookmark_in old.plan.bookmarks id) (text_row old id) job
-    (sym (ap job_of (keeps.texts id)) ∙ (sym (out_of_map text (text_row new id)) ∙ e))
+edit_keeps_out asked felt old new keeps (Step branch g) job e = grind (arith, kept_arrival, out_of_map, keeps.arrivals (mark_at branch g))
+edit_keeps_out asked felt old new keeps (View id) job e = grind (arith, kept_of, out_of_map, keeps.texts id)
 
 pub edit_drops : (asked : Asked) (old new : BookState) → Revises asked old new → DropsJobs old new
 edit_drops asked old new h = record {

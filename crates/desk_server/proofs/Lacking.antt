@@ -1,5 +1,5 @@
 -- Which lines can be out of memory.
-use Rattle.std.proofs.Common.{◌≡◌, ℕ, ◌≤◌, ◌<◌, List, [], ◌∷◌, length, length-append, Bool, true, false, cond, codes, ap, refl, arith, Option, Some, None}
+use Rattle.std.proofs.Common.{◌≡◌, ℕ, ◌≤◌, ◌<◌, List, ◌∷◌, length, length-append, Bool, true, false, codes, ap, refl, arith, Option, Some, None}
 use Rattle.std.specs.List.{join_with_byte}
 use Rattle.std.specs.Option.{option_map}
 use Rattle.std.specs.Str.{bytes_eq}
@@ -8,7 +8,6 @@ use Rattle.script_lines.specs.Words.{words, squashed}
 use Rattle.schedule.specs.declared.edit.Edit.{Edit}
 use Rattle.schedule.specs.declared.document.Bookmark.{Bookmark}
 use Rattle.schedule.specs.Plan.{Plan}
-use Rattle.desk_server.specs.View.{alone}
 use Rattle.desk_server.specs.Command.{command_of, command_of_words, command_by, looking_by, format_of, format_of_words, start_of}
 use Rattle.desk_server.specs.Script.{asked_by}
 use Rattle.desk_server.specs.Shortage.{Memory}
@@ -41,15 +40,6 @@ other-lacks n c h = grind (arith, shown-lacks)
 edit-open : (e : Option Edit) → is_fixed (option_map command.Edit e) ≡ false
 edit-open e = grind (arith)
 
-show-open : (id : Option ℕ) → is_fixed (option_map command.Show id) ≡ false
-show-open id = grind (arith)
-
-peek-open : (id : Option ℕ) → is_fixed (option_map command.Peek id) ≡ false
-peek-open id = grind (arith)
-
-script-open : (rest : List (List ℕ)) → is_fixed (alone (Some command.Script) rest) ≡ false
-script-open rest = grind (arith)
-
 -- each edit can
 pub edit-lacks : (e : Option Edit) (n : ℕ) → CanLackMemory (asked_by n (option_map command.Edit e))
 edit-lacks e n = other-lacks n (option_map command.Edit e) (edit-open e)
@@ -59,48 +49,33 @@ short : (word text : List ℕ) → bytes_eq word text ≡ true → (bytes_eq wor
 short word text e = (e, ap length ((bytes_eq-Decides word text).0 e))
 
 -- where no word may follow, none does
-none-short : (rest : List (List ℕ)) → rest ≡ [] → length (join_with_byte 32 rest) ≤ 3
-none-short rest e = grind (arith)
-
-alone-fixed : (c : Command) (rest : List (List ℕ)) → is_fixed (alone (Some c) rest) ≡ true
-    → length (join_with_byte 32 rest) ≤ 3
-alone-fixed c rest h = grind (arith)
-
-alone-opens : (f : Format) (rest : List (List ℕ)) → opens (alone (Some f) rest) ≡ true → rest ≡ []
-alone-opens f rest h = grind (arith)
-
 -- the first word is short, and so is what stands behind it
 abbrev IsShort : List ℕ → List (List ℕ) → Type 0
 IsShort word rest = (length word ≤ 6) × (length (join_with_byte 32 rest) ≤ 3)
 
 -- where the first word is none of the first four
-last-of : (a b c d : Bool) (s w h q l : Option Command) → a ≡ false → b ≡ false → c ≡ false → d ≡ false
-    → cond a s (cond b w (cond c h (cond d q l))) ≡ l
-last-of a b c d s w h q l e f g k = grind (arith)
-
 pub looked : (word : List ℕ) (rest : List (List ℕ)) → bytes_eq word (codes "settle") ≡ false
     → bytes_eq word (codes "work") ≡ false → bytes_eq word (codes "show") ≡ false
     → bytes_eq word (codes "quit") ≡ false → command_by word rest ≡ looking_by word rest
-looked word rest e f g k = grind (arith, last-of)
+looked word rest e f g k = grind (arith)
 
 -- of a command that looks
 looking-short : (word : List ℕ) (rest : List (List ℕ)) → is_fixed (looking_by word rest) ≡ true → IsShort word rest
-looking-short word rest h = grind (arith, short, peek-open, alone-fixed, script-open, edit-open)
+looking-short word rest h = grind (arith, short, edit-open)
 
 -- of a command of fixed words
 command-short : (word : List ℕ) (rest : List (List ℕ)) → is_fixed (command_by word rest) ≡ true → IsShort word rest
-command-short word rest h = grind (arith, short, alone-fixed, show-open, looking-short)
+command-short word rest h = grind (arith, short, looking-short)
 
 -- of the command of a text
 start-short : (ws : List (List ℕ)) → opens (start_of ws) ≡ true → length (join_with_byte 32 ws) ≤ 3
-start-short ws h = grind (arith, short, alone-opens)
+start-short ws h = grind (arith, short)
 
 text-short : (word : List ℕ) (rest : List (List ℕ)) → opens (format_of_words (word ∷ rest)) ≡ true → IsShort word rest
-text-short word rest h = grind (arith, short, none-short, alone-opens, start-short)
+text-short word rest h = grind (arith, short, start-short)
 
 line-short : (word : List ℕ) (rest : List (List ℕ)) → IsShort word rest → length (join_with_byte 32 (word ∷ rest)) ≤ 64
-line-short word [] h = omega (arith, h.0)
-line-short word (w ∷ rest) h = omega (arith, h.0, h.1, length-append word (32 ∷ join_with_byte 32 (w ∷ rest)))
+line-short word rest h = grind (arith, length-append {A = ℕ})
 
 words-fixed : (ws : List (List ℕ)) → is_fixed (command_of_words ws) ≡ true → length (join_with_byte 32 ws) ≤ 64
 words-fixed ws h = grind (arith, command-short, line-short)

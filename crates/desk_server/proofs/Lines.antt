@@ -1,5 +1,5 @@
 -- The lines of `list`.
-use Rattle.std.proofs.Common.{◌≡◌, ◌∙◌, ℕ, List, [], ◌∷◌, ◌++◌, Option, map, length, refl, ap, ap₂, append_assoc, codes, arith}
+use Rattle.std.proofs.Common.{◌≡◌, ℕ, List, [], ◌∷◌, ◌++◌, Option, map, length, refl, ap, append_assoc, codes, arith}
 use Rattle.std.specs.Prelude.{decimal, flat_map, is_some}
 use Rattle.std.specs.Option.{option_map}
 use Rattle.schedule.specs.declared.acts.Acts.TheVariants.{Once, Every}
@@ -55,7 +55,4 @@ lines_text d branches interventions lines =
 pub all-lines : (d : BookState) (branches : List Branch) (interventions : List Intervention) (lines : ℕ)
     → branches ≡ d.plan.branches → interventions ≡ d.plan.interventions → lines ≡ lines_of d.plan
     → lines_text d branches interventions lines ≡ listed_text d.plan (has_text d)
-all-lines d branches interventions lines e f h =
-    ap₂ (λ b i. lines_text d b i lines) e f ∙ ap (lines_text d d.plan.branches d.plan.interventions) h
-    ∙ ap (λ rows. flat_map branch_line d.plan.branches ++ (flat_map intervention_line d.plan.interventions
-    ++ (rows ++ (codes "listed " ++ (decimal (lines_of d.plan) ++ codes "\n"))))) (rows-lines d d.plan.bookmarks)
+all-lines d branches interventions lines e f h = grind (arith, rows-lines)

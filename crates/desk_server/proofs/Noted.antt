@@ -100,10 +100,8 @@ module _ {V : Type 0} (notes : V → BookState → V → Type 0) where
 
   counts_up : (a b : Moment V) (xs : List Answered) → a.missed ≤ 2 ^ 64 - 1 → NotesEach notes a b xs
       → a.missed ≤ b.missed
-  counts_up a b [] low f = let is = ap (λ (m : Moment V). m.missed) f in omega (arith, is)
-  counts_up a b (x ∷ xs) low f =
-      let one = count_up a.missed f.0.missed f.1.watched f.0.seen f.0.desk low f.1.noted in
-      let rest = counts_up f.0 b xs one.1 f.2 in omega (arith, one.0, rest)
+  counts_up a b [] low f = grind (arith)
+  counts_up a b (x ∷ xs) low f = grind (arith, count_up, counts_up f.0 b xs)
 
 -- one history goes on from another, and a third from that
 goes_over : (old next new : History) (xs ys : List Picture) → next ≡ history old.board (old.pictures ++ xs)
@@ -203,9 +201,7 @@ shows_one old next new watched x xs r low up shown gives pending (inl noted) res
     let showing : Showing = record { gave = shown.gave; before = seen.pictures; own = Some s } in
     let counted : count_by is_left_out (showing ∷ rest.showings) ≡ 0 + count_by is_left_out rest.showings =
     sum_by-cons (λ (y : Showing). one_if (is_left_out y)) showing rest.showings in
-    let summed : sum_by (λ (y : Showing). y.gave) (showing ∷ rest.showings)
-    ≡ shown.gave + sum_by (λ (y : Showing). y.gave) rest.showings =
-    sum_by-cons (λ (y : Showing). y.gave) showing rest.showings in
+    let summed = sum_by-cons (λ (y : Showing). y.gave) showing rest.showings in
     let came = shown.came in
     let gave = rest.gave in record {
       showings = showing ∷ rest.showings;
@@ -230,9 +226,7 @@ shows_one old next new watched x xs r low up shown gives pending (inr passed) re
     let showing : Showing = record { gave = shown.gave; before = seen.pictures; own = None } in
     let counted : count_by is_left_out (showing ∷ rest.showings) ≡ 1 + count_by is_left_out rest.showings =
     sum_by-cons (λ (y : Showing). one_if (is_left_out y)) showing rest.showings in
-    let summed : sum_by (λ (y : Showing). y.gave) (showing ∷ rest.showings)
-    ≡ shown.gave + sum_by (λ (y : Showing). y.gave) rest.showings =
-    sum_by-cons (λ (y : Showing). y.gave) showing rest.showings in
+    let summed = sum_by-cons (λ (y : Showing). y.gave) showing rest.showings in
     let came = shown.came in
     let gave = rest.gave in record {
       showings = showing ∷ rest.showings;

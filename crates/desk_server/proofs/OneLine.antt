@@ -5,6 +5,7 @@ use Rattle.std.specs.List.{AllByRecursion}
 use Rattle.std.specs.Option.{option_map, option_zip}
 use Rattle.std.specs.Prelude.{⊤}
 use Rattle.std.specs.Str.{bytes_eq}
+use Rattle.basics.proofs.Shared.Lists.{all_so}
 use Rattle.text_lines.specs.Lines.{End, Ended, Broken, Line, lines_until}
 use Rattle.script_lines.specs.ScriptLine.{is_passed_over, is_end}
 use Rattle.script_lines.specs.Words.{words}
@@ -40,9 +41,8 @@ use Rattle.desk_server.specs.Faults.{Fault, of_edit, of_rule, of_pattern, of_mac
 use Rattle.desk_server.specs.View.{alone, view_of}
 use Rattle.desk_server.specs.Command.{cells_of, repeated_by, some_cells, cells_set, counted, on_of, change_of, change_named, changed_by, repeated_of, edit_in_branch, edit_in_named, further_edit_by, edit_by, looking_by, command_of, command_of_words, format_of, one_count}
 use Rattle.desk_server.specs.Shortage.{Shortage}
-use Rattle.desk_server.specs.Scripted.{script_text, scripted_text}
-use Rattle.desk_server.specs.Answer.{Session, opening_session, scripted, session_after}
-use Rattle.desk_server.specs.Answer.{Ask, Obey, Take, After, accepted, answer, edited, id_word, listed, only, polled, settled, shown, started, taken, there, unless_fault, unless_memory}
+use Rattle.desk_server.specs.Answer.{Session, opening_session, session_after}
+use Rattle.desk_server.specs.Answer.{Ask, Obey, Take, After, accepted, answer, edited, id_word, started, taken, unless_fault, unless_memory}
 use Rattle.desk_server.specs.Script.{asked_at, asked_by, asks, afters, Between, InText, Place, place_behind, documents_of, documents_with, first_shortage, later_shortages}
 use Rattle.desk_server.specs.OneLine.{adds_branch, AddsNoBranch, HasOneLine}
 use Rattle.desk_server.proofs.RuleStates.{rule_of-few}
@@ -285,30 +285,9 @@ taken-keeps K Q stays p format.Macrocell text k =
     (macrocells.pattern_of text) k
     (λ loaded is. started-keeps K Q stays p loaded.generation loaded.plane k)
 
-pub settled-keeps : (K : Plan → Type 0) (short : Shortage) (p : Plan) → K p → K (settled short p).plan
-settled-keeps K short p k = grind (arith)
-
-pub polled-keeps : (K : Plan → Type 0) (short : Shortage) (p : Plan) → K p → K (polled short p).plan
-polled-keeps K short p k = grind (arith)
-
-pub listed-keeps : (K : Plan → Type 0) (short : Shortage) (p : Plan) → K p → K (listed short p).plan
-listed-keeps K short p k = grind (arith)
-
-there-keeps : (K : Plan → Type 0) (short : Shortage) (p : Plan) (id : ℕ) (b : Bookmark) → K p
-    → K (there short p id b).plan
-there-keeps K short p id b k = grind (arith)
-
-pub shown-keeps : (K : Plan → Type 0) (short : Shortage) (p : Plan) (id : ℕ) (b : Option Bookmark) → K p
-    → K (shown short p id b).plan
-shown-keeps K short p id b k = grind (arith, there-keeps, unless_memory-keeps)
-
-pub scripted-keeps : (K : Plan → Type 0) (short : Shortage) (s : Session) → K s.plan → K (scripted short s).plan
-scripted-keeps K short s k =
-    unless_memory-keeps K short s.plan (only s.plan (scripted_text (script_text s.rule_text s.plan))) k k
-
 pub answer-keeps : (K : Plan → Type 0) (Q : Asked → Type 0) → Stays K Q → (short : Shortage) (s : Session) (ask : Ask)
     → Fits Q ask → K s.plan → K (answer short s ask).plan
-answer-keeps K Q stays short s ask q k = grind (arith, edited-keeps, listed-keeps, polled-keeps, scripted-keeps, settled-keeps, shown-keeps, taken-keeps, unless_memory-keeps)
+answer-keeps K Q stays short s ask q k = grind (arith, edited-keeps, taken-keeps)
 
 -- the document after a reply, and those after what follows
 documents-more : (K : Plan → Type 0) (q : Plan) (ends : Bool) (more : List After) → K q
@@ -327,14 +306,9 @@ documents-keep K Q stays s (ask ∷ rest) shortages h k =
     documents-more K after.plan after.ends (afters next rest (later_shortages shortages)) kept
     (documents-keep K Q stays next rest (later_shortages shortages) h.1 kept)
 
-pub all-map : {A : Type 0} (P Q : A → Type 0) (xs : List A) → ((x : A) → P x → Q x) → AllByRecursion P xs
-    → AllByRecursion Q xs
-all-map P Q [] f h = tt
-all-map P Q (x ∷ xs) f h = (f x h.0, all-map P Q xs f h.1)
-
-pub any-line : (lines : List Line) → AllByRecursion (λ (line : Line). ⊤) lines
-any-line [] = tt
-any-line (line ∷ lines) = (tt, any-line lines)
+pub each-line : (P : Line → Type 0) → ((line : Line) → P line) → (lines : List Line) → AllByRecursion P lines
+each-line P f [] = tt
+each-line P f (line ∷ lines) = (f line, each-line P f lines)
 
 -- the limits of documents, and a rule with states
 abbrev pub KeepsLimits : Plan → Type 0
@@ -355,10 +329,8 @@ pub documents-sound : (script : List ℕ) (shortages : List Shortage)
     → AllByRecursion IsSound (documents_with script shortages)
 documents-sound script shortages =
     let lines = lines_until Ended script in
-    let fit =
-    asks-fit HasStates Ended Between 1 lines
-    (all-map (λ (line : Line). ⊤) (LineFits HasStates) lines (λ line _ a said. said.states) (any-line lines)) in
-    all-map KeepsLimits IsSound (documents_with script shortages) (λ p k. k.0)
+    let fit = asks-fit HasStates Ended Between 1 lines (each-line (LineFits HasStates) (λ line a said. said.states) lines) in
+    all_so KeepsLimits IsSound (documents_with script shortages) (λ p k. k.0)
     (documents-keep KeepsLimits HasStates limits-stay opening_session
     (asks Ended Between 1 lines) shortages fit opening-keeps)
 
@@ -394,10 +366,10 @@ alone-one_line p k =
     k.0.0.branches_sound.bookmarks_placed in
     record {
       branches = k.1;
-      interventions = all-map (λ (i : Intervention). IsPlaced [] i.branch (first_of i.acts))
+      interventions = all_so (λ (i : Intervention). IsPlaced [] i.branch (first_of i.acts))
           (λ (i : Intervention). i.branch ≡ 0) p.interventions (λ i. placed-alone i.branch (first_of i.acts)) sound;
       bookmarks =
-          all-map (λ (b : Bookmark). IsPlaced [] b.branch b.generation) (λ (b : Bookmark). b.branch ≡ 0) p.bookmarks
+          all_so (λ (b : Bookmark). IsPlaced [] b.branch b.generation) (λ (b : Bookmark). b.branch ≡ 0) p.bookmarks
           (λ b. placed-alone b.branch b.generation) marked;
       line = one_line p k.0.0 k.1;
     }
@@ -408,8 +380,8 @@ documents-one_line script shortages none =
     let lines = lines_until Ended script in
     let fit =
     asks-fit AsksAlone Ended Between 1 lines
-    (all-map (λ (line : Line). adds_branch (words line.says) ≡ false) (LineFits AsksAlone) lines
+    (all_so (λ (line : Line). adds_branch (words line.says) ≡ false) (LineFits AsksAlone) lines
     (λ line e a said. (said.states, said.none e)) none) in
-    all-map IsAlone HasOneLine (documents_with script shortages) alone-one_line
+    all_so IsAlone HasOneLine (documents_with script shortages) alone-one_line
     (documents-keep IsAlone AsksAlone alone-stays opening_session (asks Ended Between 1 lines) shortages fit
     (opening-keeps, refl))

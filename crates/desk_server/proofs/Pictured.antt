@@ -1,12 +1,11 @@
 -- What a picture shows of what a reply tells.
 use Rattle.std.proofs.Common.{◌≡◌, ◌∙◌, ℕ, ◌+◌, List, [], ◌∷◌, map, sym, ap, subst, arith, cond, Bool, true, Option}
-use Rattle.std.specs.Prelude.{IsSome, ◌==◌, count_by, not}
+use Rattle.std.specs.Prelude.{IsSome, count_by, not}
 use Rattle.std.specs.List.{AllByRecursion}
 use Rattle.std.proofs.lemmas.Bool.{cond-true}
 use Rattle.std.proofs.lemmas.Bool.Decides.{nat_tests}
 use Rattle.std.proofs.lemmas.List.Sums.{sum_by-cons}
 use Rattle.schedule.specs.declared.document.Bookmark.{Bookmark}
-use Rattle.dependency_book.specs.declared.row.RowState.{RowState}
 use Rattle.dependency_book.specs.BookState.{BookState, is_pending, pending_of, text_known}
 use Rattle.dependency_book.specs.Right.{IsRight}
 use Rattle.dependency_book.specs.RowState.{known, is_known}
@@ -31,16 +30,10 @@ one_if b = cond b 1 0
 if_known : (b : Bool) → one_if (not b) ≡ 0 → b ≡ true
 if_known b e = grind (arith)
 
-found_later : (test : Bool) (s t : RowState (List ℕ)) → is_known s ≡ true → IsSome (known t) → IsSome (known (cond test s t))
-found_later test s t here there = grind (arith)
-
 each_later : (r : TextRow) (rs : List TextRow) (bs : List Bookmark) → is_known r.state ≡ true
     → AllByRecursion (IsFound rs) bs → AllByRecursion (IsFound (r ∷ rs)) bs
 each_later r rs [] here found = tt
-each_later r rs (b ∷ bs) here found = (
-  found_later (bookmark_rank r.key == b.id) r.state (state_at bookmark_rank b.id rs) here found.0,
-  each_later r rs bs here found.1,
-)
+each_later r rs (b ∷ bs) here found = grind (arith, each_later r rs bs)
 
 found_here : (r : TextRow) (rs : List TextRow) → is_known r.state ≡ true → IsFound (r ∷ rs) r.key
 found_here r rs here = grind (arith, cond-true, nat_tests)

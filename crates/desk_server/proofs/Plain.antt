@@ -1,5 +1,5 @@
 -- Answers for which nothing is short.
-use Rattle.std.proofs.Common.{◌≡◌, ◌⊎◌, inl, inr, ℕ, zero, suc, ◌&&◌, nat_le, List, [], ◌∷◌, ◌++◌, length, Bool, true, false, cond, refl, ap, ap₂, Option, None, Some, codes, arith}
+use Rattle.std.proofs.Common.{◌≡◌, ◌⊎◌, inl, inr, ℕ, zero, suc, ◌&&◌, nat_le, List, [], ◌∷◌, ◌++◌, length, Bool, true, false, cond, refl, ap, Option, None, Some, codes, arith}
 use Rattle.std.specs.Prelude.{decimal, flat_map}
 use Rattle.schedule.specs.Plan.{Plan}
 use Rattle.schedule.specs.Asked.{asked_of}
@@ -9,7 +9,7 @@ use Rattle.std.specs.List.{AllByRecursion, list_all}
 use Rattle.desk_events.specs.Wanted.{bookmark_in}
 use Rattle.desk_server.specs.Reply.{unsettled_text, settled_text, polled_text}
 use Rattle.desk_server.specs.Listed.{bookmark_line, branch_line, intervention_line, lines_of, listed_text}
-use Rattle.desk_server.specs.Shortage.{Shortage, NoShortage, Memory, Unsettled, Pending, Still, Known, IsCaused, IsCausedOver, AllCausedOver}
+use Rattle.desk_server.specs.Shortage.{Shortage, NoShortage, Unsettled, Known, IsCaused, IsCausedOver, AllCausedOver}
 use Rattle.desk_server.specs.Answer.{Ask, Obey, Take, Refuse, After, Session, answer, only, unless_memory, edited, settled, polled, listed, shown, scripted, obeyed, session_after}
 use Rattle.desk_server.specs.Script.{first_shortage, later_shortages, afters}
 use Rattle.desk_server.specs.Plain.{ShowsShortage, NoneShows}
@@ -47,27 +47,14 @@ polled-plain : (prompt : Bool) (short : Shortage) (p : Plan) → IsPlain prompt 
 polled-plain prompt short p = grind (arith, still-plain)
 
 -- of two that both hold
-first-known : (v w : Bool) → (v && w) ≡ true → v ≡ true
-first-known v w h = grind (arith)
-
-rest-known : (v w : Bool) → (v && w) ≡ true → w ≡ true
-rest-known v w h = grind (arith)
-
 -- the lines of bookmarks whose texts are all known
 known-lines : (known : ℕ → Bool) (bs : List Bookmark) → list_all (λ b. known b.id) bs ≡ true
     → flat_map (λ (b : Bookmark). bookmark_line b (known b.id)) bs
     ≡ flat_map (λ (b : Bookmark). bookmark_line b true) bs
 known-lines known [] h = refl
-known-lines known (b ∷ bs) h =
-    ap₂ (λ v rest. bookmark_line b v ++ rest) (first-known (known b.id) (list_all (λ b. known b.id) bs) h)
-    (known-lines known bs (rest-known (known b.id) (list_all (λ b. known b.id) bs) h))
+known-lines known (b ∷ bs) h = grind (arith, known-lines known bs)
 
 listed-plain : (prompt : Bool) (short : Shortage) (p : Plan) → IsPlain prompt (listed short p) (listed NoShortage p)
-listed-plain prompt NoShortage p = inl refl
-listed-plain prompt Memory p = inl refl
-listed-plain prompt (Unsettled n cause) p = inl refl
-listed-plain prompt Pending p = inl refl
-listed-plain prompt (Still n cause) p = inl refl
 listed-plain prompt (Known known) p = either (list_all (λ b. known b.id) p.bookmarks) refl
   where
     either : (v : Bool) → list_all (λ b. known b.id) p.bookmarks ≡ v
@@ -78,6 +65,7 @@ listed-plain prompt (Known known) p = either (list_all (λ b. known b.id) p.book
         ++ (lines ++ (codes "listed " ++ (decimal (lines_of p) ++ codes "\n"))))))
         (known-lines known p.bookmarks e))
     either false e = inr (inr (inr (inr (inr (p, known, e, refl)))))
+listed-plain prompt short p = inl refl
 
 shown-plain : (prompt : Bool) (short : Shortage) (p : Plan) (id : ℕ) (b : Option Bookmark)
     → IsPlain prompt (shown short p id b) (shown NoShortage p id b)

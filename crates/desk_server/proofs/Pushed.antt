@@ -10,7 +10,7 @@ use Rattle.schedule.specs.declared.document.Intervention.{Intervention}
 use Rattle.schedule.specs.Asked.{Asked}
 use Rattle.schedule.specs.Ids.{branch_id, bookmark_id, intervention_id}
 use Rattle.schedule.specs.Plan.{Plan}
-use Rattle.document_replay.specs.Replay.{add_all, ids_between, row_edits, branch_edits, bookmark_edits, intervention_edits}
+use Rattle.document_replay.specs.Replay.{add_all, ids_between}
 use Rattle.document_replay.specs.Replay.{add_branch, add_bookmark, add_intervention, skip_branch, skip_bookmark, skip_intervention}
 use Rattle.desk_server.specs.Scripted.{edit_line, edit_lines, rule_lines, script_text, skip_lines, start_lines}
 use Rattle.desk_server.proofs.Parts.{next}
@@ -22,10 +22,7 @@ module _ {A : Type 0} (text : A → List ℕ) where
 
   pub grown-more : (old now new : List ℕ) (xs : List A) (k : ℕ) (d : A) → k < length xs
       → new ≡ now ++ text (get_or xs k d) → IsGrowing old now (drop k xs) xs → IsGrowing old new (drop (k + 1) xs) xs
-  grown-more old now new xs k d low is grows =
-      ap (λ v. v ++ flat_map text (drop (k + 1) xs)) is
-      ∙ append_assoc now (text (get_or xs k d)) (flat_map text (drop (k + 1) xs))
-      ∙ ap (λ v. now ++ v) (sym (next text xs k d low)) ∙ grows
+  grown-more old now new xs k d low is grows = grind (arith, append_assoc, next)
 
 -- the ids from one on, below another
 pub range-more : (a b : ℕ) → a < b → range_with_len a (b - a) ≡ a ∷ range_with_len (a + 1) (b - (a + 1))
@@ -38,10 +35,7 @@ range-none a b high = grind (arith)
 pub pushed-more : (text : ℕ → List ℕ) (old now new : List ℕ) (a b : ℕ) (ids : List ℕ) → a < b
     → new ≡ now ++ text a → IsGrowing text old now (range_with_len a (b - a)) ids
     → IsGrowing text old new (range_with_len (a + 1) (b - (a + 1))) ids
-pushed-more text old now new a b ids low is grows =
-    let rest = flat_map text (range_with_len (a + 1) (b - (a + 1))) in
-    ap (λ v. v ++ rest) is ∙ append_assoc now (text a) rest
-    ∙ ap (λ v. now ++ flat_map text v) (sym (range-more a b low)) ∙ grows
+pushed-more text old now new a b ids low is grows = grind (arith, append_assoc, range-more)
 
 -- those that are left are those from the next one on, also where there is no number behind the last
 pub range-first : (first last id : ℕ) → first ≡ last + 1 → range_with_len first (id - first) ≡ ids_between last id
@@ -102,26 +96,15 @@ zero-is : decimal 0 ≡ codes "0"
 zero-is = decimal_digit 0 (omega arith)
 
 pub branch-skipped : (id : ℕ) → edit_lines (skip_branch id) ≡ skip_lines (codes "branch 0 0\n") (codes "unbranch ") id
-branch-skipped id =
-    ap (λ zero. (codes "branch " ++ (zero ++ (codes " " ++ (zero ++ codes "\n"))))
-    ++ (codes "unbranch " ++ (decimal id ++ codes "\n") ++ [])) zero-is
-    ∙ ap (λ v. codes "branch 0 0\n" ++ v) (append-nil (codes "unbranch " ++ (decimal id ++ codes "\n")))
+branch-skipped id = grind (arith, zero-is, append-nil)
 
 pub bookmark-skipped : (id : ℕ)
     → edit_lines (skip_bookmark id) ≡ skip_lines (codes "on 0 mark 0 counts\n") (codes "unmark ") id
-bookmark-skipped id =
-    ap (λ zero. (codes "on " ++ (zero ++ (codes " mark " ++ (zero ++ codes " counts\n"))))
-    ++ (codes "unmark " ++ (decimal id ++ codes "\n") ++ [])) zero-is
-    ∙ ap (λ v. codes "on 0 mark 0 counts\n" ++ v) (append-nil (codes "unmark " ++ (decimal id ++ codes "\n")))
+bookmark-skipped id = grind (arith, zero-is, append-nil)
 
 pub intervention-skipped : (id : ℕ)
     → edit_lines (skip_intervention id) ≡ skip_lines (codes "on 0 at 0 set 0 0 0\n") (codes "drop ") id
-intervention-skipped id =
-    ap (λ zero. (codes "on " ++ (zero ++ ((codes " at " ++ zero)
-    ++ (codes " set"
-    ++ (((codes " " ++ (zero ++ (codes " " ++ (zero ++ (codes " " ++ zero))))) ++ []) ++ codes "\n")))))
-    ++ (codes "drop " ++ (decimal id ++ codes "\n") ++ [])) zero-is
-    ∙ ap (λ v. codes "on 0 at 0 set 0 0 0\n" ++ v) (append-nil (codes "drop " ++ (decimal id ++ codes "\n")))
+intervention-skipped id = grind (arith, zero-is, append-nil)
 
 -- all lines of a document
 pub whole : (rule : Option (List ℕ)) (p : Plan) (new a b c d e : List ℕ) (branches : List Branch)
@@ -130,20 +113,4 @@ pub whole : (rule : Option (List ℕ)) (p : Plan) (new a b c d e : List ℕ) (br
     → d ≡ c ++ edit_lines (add_all bookmark_id skip_bookmark add_bookmark 0 bookmarks)
     → e ≡ d ++ edit_lines (add_all intervention_id skip_intervention add_intervention 0 interventions)
     → branches ≡ p.branches → bookmarks ≡ p.bookmarks → interventions ≡ p.interventions → e ≡ script_text rule p
-whole rule p new a b c d e branches bookmarks interventions first ruled started branched marked inserted x y z =
-    let bs = branch_edits p in
-    let ms = bookmark_edits p in
-    let is = intervention_edits p in
-    inserted ∙ ap (λ v. d ++ edit_lines (add_all intervention_id skip_intervention add_intervention 0 v)) z
-    ∙ ap (λ v. v ++ edit_lines is) (marked ∙ ap (λ v. c ++ edit_lines (add_all bookmark_id skip_bookmark add_bookmark 0 v)) y)
-    ∙ append_assoc c (edit_lines ms) (edit_lines is)
-    ∙ ap (λ v. v ++ (edit_lines ms ++ edit_lines is))
-    (branched ∙ ap (λ v. b ++ edit_lines (add_all branch_id skip_branch add_branch 0 v)) x)
-    ∙ append_assoc b (edit_lines bs) (edit_lines ms ++ edit_lines is)
-    ∙ ap (λ v. b ++ v)
-    (sym (append_assoc (edit_lines bs) (edit_lines ms) (edit_lines is))
-    ∙ ap (λ v. v ++ edit_lines is) (sym (flat_map-append edit_line bs ms))
-    ∙ sym (flat_map-append edit_line (bs ++ ms) is))
-    ∙ ap (λ v. v ++ edit_lines (row_edits p)) started
-    ∙ append_assoc a (start_lines p) (edit_lines (row_edits p))
-    ∙ ap (λ v. v ++ (start_lines p ++ edit_lines (row_edits p))) (ruled ∙ ap (λ v. v ++ rule_lines rule) first)
+whole rule p new a b c d e branches bookmarks interventions first ruled started branched marked inserted x y z = grind (arith, append_assoc, flat_map-append)

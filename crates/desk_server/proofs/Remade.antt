@@ -11,7 +11,7 @@ use Rattle.text_lines.specs.LineEnds.{text_of_lines}
 use Rattle.text_lines.specs.Lines.{End, Ended, NoLineFeed, full_line, lines_until}
 use Rattle.text_lines.specs.Numbers.{numbers_line}
 use Rattle.text_lines.specs.RuleNames.{IsName}
-use Rattle.text_lines.proofs.Shared.ByteRanges.{IsDigit, IsPrinted, IsVisible, differs, digit-visible, printed-tested}
+use Rattle.text_lines.proofs.Shared.ByteRanges.{IsDigit, IsVisible, differs, digit-visible, printed-tested}
 use Rattle.text_lines.proofs.Shared.ByteRanges.{visible-printed}
 use Rattle.text_lines.proofs.Shared.Decimals.{decimal-bytes, decimal-some}
 use Rattle.text_lines.proofs.Shared.LineEnds.{line-first}
@@ -53,7 +53,7 @@ use Rattle.desk_server.specs.Command.{format_of}
 use Rattle.desk_server.specs.Faults.{of_edit, of_macrocell, of_rule}
 use Rattle.desk_server.specs.Scripted.{edit_lines, script_text, start_lines}
 use Rattle.desk_server.specs.Shortage.{NoShortage}
-use Rattle.desk_server.specs.Answer.{Ask, Obey, Take, After, Session, accepted, answer, edited, id_word}
+use Rattle.desk_server.specs.Answer.{Ask, Obey, Take, Session, accepted, answer, edited, id_word}
 use Rattle.desk_server.specs.Answer.{opening_session, session_after, started, unless_fault}
 use Rattle.desk_server.specs.Script.{Between, InText, afters, asks}
 use Rattle.desk_server.specs.Anew.{CanBeWritten, HasText, IsAccepted, IsWritten, MakesAnew, ScriptsMakeAnew}
@@ -97,10 +97,7 @@ Makes s asked q = AllByRecursion IsAccepted (afters s asked []) × (last_plan s.
 makes-more : (s : Session) (ask : Ask) (c : Changed) (word : List ℕ) (number : Option ℕ) (rest : List Ask) (q : Plan)
     → answer NoShortage s ask ≡ accepted c word number → Makes (session_after s ask c.plan) rest q
     → Makes s (ask ∷ rest) q
-makes-more s ask c word number rest q is makes =
-    subst (λ (a : After). AllByRecursion IsAccepted (a ∷ cond a.ends [] (afters (session_after s ask a.plan) rest []))
-    × (last_plan s.plan (a ∷ cond a.ends [] (afters (session_after s ask a.plan) rest [])) ≡ q)) (sym is)
-    ((record { revision = c.edited.revision; word = word; number = number; told = refl }, makes.0), makes.1)
+makes-more s ask c word number rest q is makes = grind (arith)
 
 -- an edit that isn't refused is accepted
 unrefused : (p : Plan) (asked : Asked) (word : List ℕ) (number : Changed → Option ℕ) → refusal p asked ≡ None
@@ -150,11 +147,7 @@ pub record AreTextLines (ls : List (List ℕ)) : Type 0 where
 lines-first : (stop : End) (ls : List (List ℕ)) (more : List ℕ) → AllByRecursion NoLineFeed ls
     → lines_until stop (text_of_lines ls ++ more) ≡ map full_line ls ++ lines_until stop more
 lines-first stop [] more h = refl
-lines-first stop (l ∷ ls) more h =
-    ap (lines_until stop) (append_assoc (l ++ 10 ∷ []) (text_of_lines ls) more
-    ∙ append_assoc l (10 ∷ []) (text_of_lines ls ++ more))
-    ∙ line-first stop [] l (text_of_lines ls ++ more) h.0
-    ∙ ap (λ v. full_line l ∷ v) (lines-first stop ls more h.1)
+lines-first stop (l ∷ ls) more h = grind (arith, append_assoc, line-first, lines-first stop ls more)
 
 lines-raw : (ls : List (List ℕ)) → raw_bytes (map full_line ls) ≡ text_of_lines ls
 lines-raw [] = refl
@@ -249,10 +242,7 @@ all_single ls h = all_so IsLine NoLineFeed ls (λ l k. printed-one l k.printed) 
 
 mark-line : (letter : ℕ) (bs : List ℕ) → IsVisible letter → 0 < length bs → AllByRecursion IsVisible bs
     → IsLine (35 ∷ letter ∷ 32 ∷ bs)
-mark-line letter bs h some visible =
-    line-between 35 (letter ∷ 32 ∷ bs) (omega arith, omega arith)
-    (visible-printed letter h, ((omega arith, omega arith), all_so IsVisible IsPrinted bs visible-printed visible))
-    (ends-append (35 ∷ letter ∷ 32 ∷ []) bs (ends-visible bs some visible))
+mark-line letter bs h some visible = grind (arith, line-between, visible-printed, all_so, ends-append, ends-visible)
 
 first-line : IsLine (codes "[M2] (experiment desk)")
 first-line = record { printed = printed-tested (codes "[M2] (experiment desk)") refl; trimmed = refl }

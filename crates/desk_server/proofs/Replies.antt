@@ -1,5 +1,5 @@
 -- What the desk's answers are by the definition of the replies.
-use Rattle.std.proofs.Common.{◌≡◌, ◌≢◌, ◌⊎◌, inl, inr, ℕ, List, Result, Err, ◌≤◌, Option, Some, None, IfNone, length, Bool, true, false, cond, not, ◌==◌, ◌&&◌, refl, sym, ap, ◌∙◌, subst, arith, nat_le}
+use Rattle.std.proofs.Common.{◌≡◌, ◌≢◌, ◌⊎◌, inl, inr, ℕ, List, Result, Err, ◌≤◌, Option, Some, None, IfNone, length, Bool, true, false, cond, not, ◌==◌, refl, sym, ap, ◌∙◌, subst, arith}
 use Rattle.std.specs.Prelude.{IsSome}
 use Rattle.std.proofs.lemmas.Bool.{cond-true}
 use Rattle.std.proofs.lemmas.Bool.Decides.{nat_tests}
@@ -18,7 +18,7 @@ use Rattle.desk_server.specs.Faults.{Fault, of_edit, of_script}
 use Rattle.desk_server.specs.Shortage.{NoShortage, Memory, Unsettled, Pending, Still}
 use Rattle.desk_server.specs.Answer.{Ask, Refuse, After, Session, answer, refused, CanLackMemory, only, unless_fault, settled, polled, rule_text_after}
 use Rattle.desk_server.specs.Answer.{shown as shown_by}
-use Rattle.desk_server.specs.Reply.{pending_text, polled_text, refused_text, settled_text, unsettled_text}
+use Rattle.desk_server.specs.Reply.{pending_text, refused_text}
 use Rattle.revision_jobs.specs.Posted.{PostView}
 use Rattle.desk_server.specs.Told.{PollsBy, reply_text, ends, shown_text}
 use Rattle.desk_server.specs.Heard.{AsksFor, Gives, GivesBy, GivesOrLacks, KeepsTaken, KeepsText, Serves, TakesText, kept_text, session}
@@ -56,37 +56,15 @@ gives-refused p new r told done fault none read law same (inr refused) is goes =
 )
 
 -- settling that left bookmarks pending
-left : (a b : Bool) (x y : After) → a ≡ true → b ≡ true → cond (a && b) x y ≡ x
-left a b x y h k = grind (arith)
-
 pub gives-unsettled : (prompt : Bool) (p : Plan) (new : BookState) (n : ℕ) (cause : Option Cause) → new.plan ≡ p
     → (prompt ≡ true → IfNone cause (pending_of new ≡ 0)) → n ≡ pending_of new → n ≢ 0 → n ≤ length new.plan.bookmarks
     → GivesBy prompt (λ short. settled short p) (reply.Unsettled n cause) new
-gives-unsettled prompt p new n cause same caused is some few = (
-  Unsettled n cause,
-  λ e. has_cause cause (caused e),
-  subst (λ q. Gives (settled (Unsettled n cause) q) (reply.Unsettled n cause) new) same
-      (left (nat_le 1 n) (nat_le n (length new.plan.bookmarks)) (only new.plan (unsettled_text n cause))
-      (only new.plan settled_text) (grind (arith, nat_tests)) (grind (arith, nat_tests))),
-)
-  where
-    has_cause : (o : Option Cause) → IfNone o (pending_of new ≡ 0) → IsSome o
-    has_cause None none = absurd (some (is ∙ none))
-    has_cause (Some why) none = refl
+gives-unsettled prompt p new n cause same caused is some few = (Unsettled n cause, grind (arith), grind (arith, nat_tests))
 
 -- a poll
-still : (a : Bool) (x y : After) → a ≡ true → cond a x y ≡ x
-still a x y h = grind (arith)
-
 pub gives-polled : (prompt : Bool) (p : Plan) (new : BookState) (n : ℕ) (cause : Option Cause) → new.plan ≡ p
     → n ≤ length new.plan.bookmarks → GivesBy prompt (λ short. polled short p) (reply.Polled n cause) new
-gives-polled prompt p new n cause same few = (
-  Still n cause,
-  λ _. tt,
-  subst (λ q. Gives (polled (Still n cause) q) (reply.Polled n cause) new) same
-      (still (nat_le n (length new.plan.bookmarks)) (only new.plan (polled_text n cause))
-      (only new.plan (polled_text 0 None)) (grind (arith, nat_tests))),
-)
+gives-polled prompt p new n cause same few = (Still n cause, λ _. tt, grind (arith, nat_tests))
 
 some_of : (o : Option Bookmark) → IsSome o → (b : Bookmark) × (o ≡ Some b)
 some_of o h = grind (arith)
@@ -100,16 +78,13 @@ pending-shown known id h = grind (arith, some_of)
 pub gives-shown : (prompt : Bool) (p : Plan) (new : BookState) (id : ℕ) (s : Shown) → new.plan ≡ p → Shows new id s
     → GivesBy prompt (λ short. shown_by short p id (bookmark_in p.bookmarks id)) (reply.Shown id) new
 gives-shown prompt p new id s same shows =
-    subst (λ q. GivesBy prompt (λ short. shown_by short q id (bookmark_in q.bookmarks id)) (reply.Shown id) new) same
-    (now s shows)
+    subst (λ q. GivesBy prompt (λ short. shown_by short q id (bookmark_in q.bookmarks id)) (reply.Shown id) new) same (now s shows)
   where
     now : (s : Shown) → Shows new id s
         → GivesBy prompt (λ short. shown_by short new.plan id (bookmark_in new.plan.bookmarks id)) (reply.Shown id) new
-    now NoSuch none = (NoShortage, λ _. tt, rw none refl)
-    now (Current text) h = (NoShortage, λ _. tt, rw (h.there, h.known, h.scratch_text) refl)
-    now shown.Pending h =
-        let b = some_of (bookmark_in new.plan.bookmarks id) h.there in
-        (Pending, λ _. tt, rw (b.1, h.unknown) refl)
+    now NoSuch none = (NoShortage, λ _. tt, grind (arith))
+    now (Current text) h = (NoShortage, λ _. tt, grind (arith))
+    now shown.Pending h = (Pending, λ _. tt, grind (arith, some_of))
 
 -- a bookmark that is shown otherwise isn't pending
 pub not_pending : (d : BookState) (id : ℕ) (s : Shown) → Shows d id s → s ≢ shown.Pending → ¬ IsPending d id
@@ -154,11 +129,7 @@ polled_goes_on p q old new r h = grind (arith)
 pub serves-taken : (prompt : Bool) (asked : Request) (format : Format) (text : Text) (r : Reply) (old new : BookState)
     (rule : Option (List ℕ)) → asked ≡ request.Take format text → TakesText format text r old new
     → Serves prompt asked r (session old rule) new
-serves-taken prompt asked format text r old new rule e takes = λ ask asks.
-    let one = subst (λ q. AsksFor q ask) e asks in
-    let gives = takes one.0 one.2 in
-    subst (λ a. GivesBy prompt (λ short. answer short (session old rule) a) r new) (sym one.1)
-    (gives.0, λ _. gives.1 refl, gives.2)
+serves-taken prompt asked format text r old new rule e takes = grind (arith)
 
 -- its bytes are kept if they are a rule's that was taken, and then there are some
 kept-rule : (b is_taken : Bool) (text : Option (List ℕ)) (bytes : List ℕ) (rule : Option (List ℕ))

@@ -1,8 +1,9 @@
 -- One command after another.
 use Rattle.std.proofs.Common.{◌≡◌, ◌≢◌, ℕ, List, [], ◌∷◌, ◌++◌, Bool, true, false, cond, sym, ◌∙◌, ap, refl, append_assoc, append-nil, subst, Option, Some, None, IfSome, inr, arith}
 use Rattle.std.specs.Prelude.{zip}
+use Rattle.basics.proofs.Shared.Lists.{all_append}
 use Rattle.std.proofs.lemmas.List.Concat.{flat_map-append}
-use Rattle.std.proofs.KnownBytes.{Appends-nil, Appends-trans}
+use Rattle.std.proofs.KnownBytes.{Appends-nil, Appends-trans, Consumes-nil}
 use Rattle.script_lines.specs.Ahead.{Ahead, Takes, LineReading}
 use Rattle.script_lines.specs.Counted.{CountedWriting}
 use Rattle.script_lines.proofs.Shared.Ahead.{takes_none, takes_then}
@@ -13,11 +14,10 @@ use Rattle.script_lines.specs.Script.{Follows}
 use Rattle.script_lines.proofs.Shared.Told.{front_first, front_then}
 use Rattle.schedule.specs.Plan.{opening}
 use Rattle.dependency_book.specs.BookState.{BookState}
-use Rattle.std.specs.List.{AllByRecursion}
 use Rattle.desk_server.specs.Shortage.{Shortage, IsCaused, AllCausedOver}
 use Rattle.desk_server.specs.Answer.{Session, opening_session, rule_text_after, session_after, Ask, After, answer}
 use Rattle.revision_jobs.specs.Posted.{PostView}
-use Rattle.desk_server.specs.Script.{asks, Between, Answered, afters, answered, answered_with, first_shortage, later_shortages, unless_bye, but_bye, texts_of, told_to, replies_to, replies_by, replies_with}
+use Rattle.desk_server.specs.Script.{asks, Between, Answered, afters, answered, answered_with, first_shortage, later_shortages, unless_bye, but_bye, texts_of, told_to, replies_to, replies_with}
 use Rattle.desk_server.specs.Told.{reply_text, ends}
 use Rattle.desk_server.specs.Heard.{KeepsText, session, AsksIfAny, Hears, Gives, Serves, Served, BreaksOff}
 use Rattle.desk_server.specs.Run.{Answers, Finishes, StopsTelling, AnswersWhole, AnswersAll, AnswersFront}
@@ -35,11 +35,6 @@ pub works_then : {R W : Type 0} (r s t : LineReading R) (w x y : CountedWriting 
 works_then r s t w x y f g = grind (arith)
 
 -- where each of two lists has causes, both together do
-caused-append : (xs ys : List Shortage) → AllByRecursion IsCaused xs → AllByRecursion IsCaused ys
-    → AllByRecursion IsCaused (xs ++ ys)
-caused-append [] ys h k = k
-caused-append (x ∷ xs) ys h k = (h.0, caused-append xs ys h.1 k)
-
 pub ends-other : (r : Reply) → r ≢ reply.Bye → ends r ≡ false
 ends-other r h = grind (arith)
 
@@ -112,40 +107,37 @@ noted_bye noted ask k r bye h = grind (arith)
 asked_nothing : (heard : Option Request) (asked : List Ask) → heard ≡ None → AsksIfAny heard asked → asked ≡ []
 asked_nothing heard asked e is = grind (arith)
 
-pub goes_on_silent : (noted : List Answered → Type 0) (prompt : Bool) (old new : Ahead) (told : Option (List ℕ))
-    (heard : Option Request) (last : Bool) (k : Session) (n m : ℕ) → noted [] → heard ≡ None → last ≡ false
-    → (h : Hears old new Between heard last n m) → Answers noted prompt old new told told k k n m
-goes_on_silent noted prompt old new told heard last k n m notes none e h = record {
-  bytes = h.bytes;
-  shortages = [];
-  caused = λ _. tt;
-  given = [];
-  taken = h.taken;
-  wrote = Appends-nil told;
-  notes = notes;
-  law = λ stop more later.
-      ap (λ v. answered k v later)
-      (h.law stop more (follows-any last stop more e) ∙ ap (λ v. v ++ asks stop Between m (lines_until stop more))
-      (asked_nothing heard h.asked none h.is));
-}
+module _ (noted : List Answered → Type 0) (prompt : Bool) (old new : Ahead) (told : Option (List ℕ))
+    (heard : Option Request) (last : Bool) (k : Session) (n m : ℕ) (notes : noted []) (none : heard ≡ None)
+    (h : Hears old new Between heard last n m) where
+  silent : (stop : End) (more : List ℕ) → Follows last stop more
+      → asks stop Between n (lines_until stop (h.bytes ++ more)) ≡ asks stop Between m (lines_until stop more)
+  silent stop more f = grind (arith, h.law, asked_nothing)
 
-pub done_silent : (noted : List Answered → Type 0) (prompt : Bool) (old new : Ahead) (told : Option (List ℕ))
-    (heard : Option Request) (last : Bool) (k : Session) (n m : ℕ) → noted [] → heard ≡ None → last ≡ true
-    → (h : Hears old new Between heard last n m) → Finishes noted prompt old new told told k n
-done_silent noted prompt old new told heard last k n m notes none e h = record {
-  bytes = h.bytes;
-  shortages = [];
-  caused = λ _. tt;
-  taken = h.taken;
-  given = [];
-  wrote = Appends-nil told;
-  notes = notes;
-  law = λ rest x.
-      ap (λ v. answered k v [])
-      (h.law Ended rest (follows_nothing last new.bytes rest h.at_end x)
-      ∙ ap (λ v. v ++ asks Ended Between m (lines_until Ended rest)) (asked_nothing heard h.asked none h.is)
-      ∙ ap (λ v. asks Ended Between m (lines_until Ended v)) (at_end_nil new.bytes rest (h.at_end e) x));
-}
+  pub goes_on_silent : last ≡ false → Answers noted prompt old new told told k k n m
+  goes_on_silent e = record {
+    bytes = h.bytes;
+    shortages = [];
+    caused = λ _. tt;
+    given = [];
+    taken = h.taken;
+    wrote = Appends-nil told;
+    notes = notes;
+    law = λ stop more later. ap (λ v. answered k v later) (silent stop more (follows-any last stop more e));
+  }
+
+  pub done_silent : last ≡ true → Finishes noted prompt old new told told k n
+  done_silent e = record {
+    bytes = h.bytes;
+    shortages = [];
+    caused = λ _. tt;
+    taken = h.taken;
+    given = [];
+    wrote = Appends-nil told;
+    notes = notes;
+    law = λ rest x. ap (λ v. answered k v []) (silent Ended rest (follows_nothing last new.bytes rest h.at_end x)
+        ∙ ap (λ v. asks Ended Between m (lines_until Ended v)) (at_end_nil new.bytes rest (h.at_end e) x));
+  }
 
 -- one thing was asked, and the reply to it found
 pub served : (prompt : Bool) (heard : Option Request) (request : Request) (asked : List Ask) (j : Session)
@@ -153,99 +145,78 @@ pub served : (prompt : Bool) (heard : Option Request) (request : Request) (asked
     → Serves prompt request r j k → KeepsText request j k t → Served prompt request r asked j k t
 served prompt heard request asked j k t r e is gives keeps = grind (arith)
 
--- the answers from here on
-afters_from : (prompt : Bool) (old new : Ahead) (heard : Option Request) (last : Bool) (j : Session) (k : BookState) (t : Option (List ℕ)) (n m : ℕ)
-    (q : Request) (r : Reply)
-    → (h : Hears old new Between heard last n m) → (s : Served prompt q r h.asked j k t)
-    → (stop : End) (more : List ℕ) (later : List Shortage) → Follows last stop more
-    → answered j (asks stop Between n (lines_until stop (h.bytes ++ more))) (s.2.0 ∷ later) ≡ one_of s.0 k r ∷ cond
-    (ends r) [] (answered (session k t) (asks stop Between m (lines_until stop more)) later)
-afters_from prompt old new heard last j k t n m q r h s stop more later f =
-    ap (λ v. answered j v (s.2.0 ∷ later))
-    (h.law stop more f ∙ ap (λ v. v ++ asks stop Between m (lines_until stop more)) s.1)
-    ∙ after_is s.2.0 j s.0 r k t s.2.2 s.4 (asks stop Between m (lines_until stop more)) later
-
-pub goes_on_told : (noted : List Answered → Type 0) (prompt : Bool) (old new : Ahead) (before after : Option (List ℕ))
-    (heard : Option Request) (last : Bool) (j : Session) (k : BookState) (t : Option (List ℕ)) (n m : ℕ) (q : Request) (r : Reply) → last ≡ false
-    → r ≢ reply.Bye
-    → (h : Hears old new Between heard last n m) → (s : Served prompt q r h.asked j k t) → noted (one_of s.0 k r ∷ [])
-    → Appends before after (reply_text k r) → Answers noted prompt old new before after j (session k t) n m
-goes_on_told noted prompt old new before after heard last j k t n m q r e b h s notes w = record {
-  bytes = h.bytes;
-  shortages = s.2.0 ∷ [];
-  caused = λ e. (s.2.1 e, tt);
-  given = one_of s.0 k r ∷ [];
-  taken = h.taken;
-  wrote = wrote_one before after s.0 k r w;
-  notes = noted_one noted s.0 k r b notes;
-  law = λ stop more later. afters_from prompt old new heard last j k t n m q r h s stop more later
-      (follows-any last stop more e)
-      ∙ ap (λ v. one_of s.0 k r ∷ cond v [] (answered (session k t) (asks stop Between m (lines_until stop more)) later))
-      (ends-other r b);
-}
-
 nothing_more : (v : Bool) (a : Answered) → a ∷ cond v [] [] ≡ a ∷ []
 nothing_more v a = grind (arith)
 
--- the last answer, behind which no command is answered
-done_told : (noted : List Answered → Type 0) (prompt : Bool) (old new : Ahead) (before after : Option (List ℕ))
-    (heard : Option Request) (last : Bool) (j : Session) (k : BookState) (t : Option (List ℕ)) (n m : ℕ) (q : Request) (r : Reply)
-    → (h : Hears old new Between heard last n m) → (s : Served prompt q r h.asked j k t)
-    → noted (but_bye (one_of s.0 k r ∷ [])) → Appends before after (reply_text k r)
-    → ((rest : List ℕ) → new.bytes ≡ Some rest
-    → one_of s.0 k r ∷ cond (ends r) [] (answered (session k t) (asks Ended Between m (lines_until Ended rest)) [])
-    ≡ one_of s.0 k r ∷ []) → Finishes noted prompt old new before after j n
-done_told noted prompt old new before after heard last j k t n m q r h s notes w ended = record {
-  bytes = h.bytes;
-  shortages = s.2.0 ∷ [];
-  caused = λ e. (s.2.1 e, tt);
-  taken = h.taken;
-  given = one_of s.0 k r ∷ [];
-  wrote = wrote_one before after s.0 k r w;
-  notes = notes;
-  law = λ rest x. afters_from prompt old new heard last j k t n m q r h s Ended rest []
-      (follows_nothing last new.bytes rest h.at_end x) ∙ ended rest x;
-}
+module _ (prompt : Bool) (old new : Ahead) (heard : Option Request) (last : Bool) (j : Session) (k : BookState)
+    (t : Option (List ℕ)) (n m : ℕ) (q : Request) (r : Reply) (h : Hears old new Between heard last n m)
+    (s : Served prompt q r h.asked j k t) where
+  -- what is answered behind this reply, unless it ends the script
+  abbrev behind : End → List ℕ → List Shortage → List Answered
+  behind stop more later = answered (session k t) (asks stop Between m (lines_until stop more)) later
 
-pub done_last : (noted : List Answered → Type 0) (prompt : Bool) (old new : Ahead) (before after : Option (List ℕ))
-    (heard : Option Request) (last : Bool) (j : Session) (k : BookState) (t : Option (List ℕ)) (n m : ℕ) (q : Request) (r : Reply) → r ≢ reply.Bye
-    → last ≡ true
-    → (h : Hears old new Between heard last n m) → (s : Served prompt q r h.asked j k t) → noted (one_of s.0 k r ∷ [])
-    → Appends before after (reply_text k r) → Finishes noted prompt old new before after j n
-done_last noted prompt old new before after heard last j k t n m q r b e h s notes w =
-    done_told noted prompt old new before after heard last j k t n m q r h s (noted_one noted s.0 k r b notes) w
-    (λ rest x. ap (λ v. one_of s.0 k r ∷ cond (ends r) []
-    (answered (session k t) (asks Ended Between m (lines_until Ended v)) []))
-    (at_end_nil new.bytes rest (h.at_end e) x) ∙ nothing_more (ends r) (one_of s.0 k r))
+  -- the answers from here on
+  afters_from : (stop : End) (more : List ℕ) (later : List Shortage) → Follows last stop more
+      → answered j (asks stop Between n (lines_until stop (h.bytes ++ more))) (s.2.0 ∷ later)
+      ≡ one_of s.0 k r ∷ cond (ends r) [] (behind stop more later)
+  afters_from stop more later f = grind (arith, after_is, h.law)
 
-pub done_bye : (noted : List Answered → Type 0) (prompt : Bool) (old new : Ahead) (before after : Option (List ℕ))
-    (heard : Option Request) (last : Bool) (j : Session) (k : BookState) (t : Option (List ℕ)) (n m : ℕ) (q : Request) (r : Reply) → noted []
-    → r ≡ reply.Bye
-    → (h : Hears old new Between heard last n m) → Served prompt q r h.asked j k t → Appends before after (reply_text k r)
-    → Finishes noted prompt old new before after j n
-done_bye noted prompt old new before after heard last j k t n m q r notes b h s w =
-    done_told noted prompt old new before after heard last j k t n m q r h s (noted_bye noted s.0 k r b notes) w
-    (λ rest _. ap (λ v. one_of s.0 k r ∷ cond (ends v) []
-    (answered (session k t) (asks Ended Between m (lines_until Ended rest)) [])) b)
+  pub goes_on_told : (noted : List Answered → Type 0) (before after : Option (List ℕ)) → last ≡ false → r ≢ reply.Bye
+      → noted (one_of s.0 k r ∷ []) → Appends before after (reply_text k r)
+      → Answers noted prompt old new before after j (session k t) n m
+  goes_on_told noted before after e b notes w = record {
+    bytes = h.bytes;
+    shortages = s.2.0 ∷ [];
+    caused = λ e. (s.2.1 e, tt);
+    given = one_of s.0 k r ∷ [];
+    taken = h.taken;
+    wrote = wrote_one before after s.0 k r w;
+    notes = noted_one noted s.0 k r b notes;
+    law = λ stop more later. afters_from stop more later (follows-any last stop more e)
+        ∙ ap (λ v. one_of s.0 k r ∷ cond v [] (behind stop more later)) (ends-other r b);
+  }
 
-pub stops_telling : (prompt : Bool) (old new : Ahead) (before after : Option (List ℕ)) (heard : Option Request)
-    (last : Bool) (j : Session) (k : BookState) (t : Option (List ℕ)) (n m : ℕ) (q : Request) (r : Reply)
-    → (h : Hears old new Between heard last n m) → Served prompt q r h.asked j k t
-    → AppendsFront before after (reply_text k r) → StopsTelling prompt old new before after j n
-stops_telling prompt old new before after heard last j k t n m q r h s w = record {
-  bytes = h.bytes;
-  shortages = s.2.0 ∷ [];
-  caused = λ e. (s.2.1 e, tt);
-  taken = h.taken;
-  law = λ rest x.
-      let all = asks Ended Between n (lines_until Ended (h.bytes ++ rest)) in
-      subst (AppendsFront before after)
-      (sym (replies_told j all (s.2.0 ∷ [])
-      ∙ ap told_to (afters_from prompt old new heard last j k t n m q r h s Ended rest []
-      (follows_nothing last new.bytes rest h.at_end x))))
-      (front_first before after (reply_text k r)
-      (told_to (cond (ends r) [] (answered (session k t) (asks Ended Between m (lines_until Ended rest)) []))) w);
-}
+  -- the last answer, behind which no command is answered
+  done_told : (noted : List Answered → Type 0) (before after : Option (List ℕ)) → noted (but_bye (one_of s.0 k r ∷ []))
+      → Appends before after (reply_text k r)
+      → ((rest : List ℕ) → new.bytes ≡ Some rest
+      → one_of s.0 k r ∷ cond (ends r) [] (behind Ended rest []) ≡ one_of s.0 k r ∷ [])
+      → Finishes noted prompt old new before after j n
+  done_told noted before after notes w ended = record {
+    bytes = h.bytes;
+    shortages = s.2.0 ∷ [];
+    caused = λ e. (s.2.1 e, tt);
+    taken = h.taken;
+    given = one_of s.0 k r ∷ [];
+    wrote = wrote_one before after s.0 k r w;
+    notes = notes;
+    law = λ rest x. afters_from Ended rest [] (follows_nothing last new.bytes rest h.at_end x) ∙ ended rest x;
+  }
+
+  pub done_last : (noted : List Answered → Type 0) (before after : Option (List ℕ)) → r ≢ reply.Bye → last ≡ true
+      → noted (one_of s.0 k r ∷ []) → Appends before after (reply_text k r)
+      → Finishes noted prompt old new before after j n
+  done_last noted before after b e notes w = done_told noted before after (noted_one noted s.0 k r b notes) w
+      (λ rest x. ap (λ v. one_of s.0 k r ∷ cond (ends r) [] (behind Ended v [])) (at_end_nil new.bytes rest (h.at_end e) x)
+      ∙ nothing_more (ends r) (one_of s.0 k r))
+
+  pub done_bye : (noted : List Answered → Type 0) (before after : Option (List ℕ)) → noted [] → r ≡ reply.Bye
+      → Appends before after (reply_text k r) → Finishes noted prompt old new before after j n
+  done_bye noted before after notes b w = done_told noted before after (noted_bye noted s.0 k r b notes) w
+      (λ rest _. ap (λ v. one_of s.0 k r ∷ cond (ends v) [] (behind Ended rest [])) b)
+
+  pub stops_telling : (before after : Option (List ℕ)) → AppendsFront before after (reply_text k r)
+      → StopsTelling prompt old new before after j n
+  stops_telling before after w = record {
+    bytes = h.bytes;
+    shortages = s.2.0 ∷ [];
+    caused = λ e. (s.2.1 e, tt);
+    taken = h.taken;
+    law = λ rest x. subst (AppendsFront before after)
+        (sym (replies_told j (asks Ended Between n (lines_until Ended (h.bytes ++ rest))) (s.2.0 ∷ [])
+        ∙ ap told_to (afters_from Ended rest [] (follows_nothing last new.bytes rest h.at_end x))))
+        (front_first before after (reply_text k r) (told_to (cond (ends r) [] (behind Ended rest []))) w);
+  }
 
 wrote_both : (x y z : Option (List ℕ)) (xs ys : List Answered) → Appends x y (told_to xs) → Appends y z (told_to ys)
     → Appends x z (told_to (xs ++ ys))
@@ -256,75 +227,75 @@ notes_both : (first next both : List Answered → Type 0) → ((ps qs : List Ans
 notes_both first next both join xs ys f g = grind (arith, but_bye-append)
 
 -- what was answered, and then what was answered next
-pub answers_answers : (first next both : List Answered → Type 0) (prompt : Bool) (a b c : Ahead) (x y z : Option (List ℕ))
-    (p q s : Session) (n m k : ℕ) → ((ps qs : List Answered) → first ps → next qs → both (ps ++ qs))
-    → Answers first prompt a b x y p q n m → Answers next prompt b c y z q s m k → Answers both prompt a c x z p s n k
-answers_answers first next both prompt a b c x y z p q s n m k join f g = record {
-  bytes = f.bytes ++ g.bytes;
-  shortages = f.shortages ++ g.shortages;
-  caused = λ e. caused-append f.shortages g.shortages (f.caused e) (g.caused e);
-  given = f.given ++ g.given;
-  taken = takes_then a b c f.bytes g.bytes f.taken g.taken;
-  wrote = wrote_both x y z f.given g.given f.wrote g.wrote;
-  notes = notes_both first next both join f.given g.given f.notes g.notes;
-  law = λ stop more later.
-      ap (λ v. answered p (asks stop Between n (lines_until stop v)) ((f.shortages ++ g.shortages) ++ later))
-      (append_assoc f.bytes g.bytes more)
-      ∙ ap (answered p (asks stop Between n (lines_until stop (f.bytes ++ (g.bytes ++ more)))))
-      (append_assoc f.shortages g.shortages later)
-      ∙ f.law stop (g.bytes ++ more) (g.shortages ++ later) ∙ ap (λ v. f.given ++ v) (g.law stop more later)
-      ∙ sym (append_assoc f.given g.given (answered s (asks stop Between k (lines_until stop more)) later));
-}
+module _ (first : List Answered → Type 0) (prompt : Bool) (a b c : Ahead) (x y z : Option (List ℕ)) (p q : Session)
+    (n m : ℕ) (f : Answers first prompt a b x y p q n m) where
+  -- the answers to more bytes, for more shortages
+  go_on : (bytes : List ℕ) (shortages : List Shortage) (stop : End) (more : List ℕ) (later : List Shortage)
+      → answered p (asks stop Between n (lines_until stop ((f.bytes ++ bytes) ++ more))) ((f.shortages ++ shortages) ++ later)
+      ≡ f.given ++ answered q (asks stop Between m (lines_until stop (bytes ++ more))) (shortages ++ later)
+  go_on bytes shortages stop more later = grind (arith, append_assoc, f.law)
 
-pub answers_finishes : (first next both : List Answered → Type 0) (prompt : Bool) (a b c : Ahead) (x y z : Option (List ℕ))
-    (p q : Session) (n m : ℕ) → ((ps qs : List Answered) → first ps → next qs → both (ps ++ qs))
-    → Answers first prompt a b x y p q n m → Finishes next prompt b c y z q m → Finishes both prompt a c x z p n
-answers_finishes first next both prompt a b c x y z p q n m join f g = record {
-  bytes = f.bytes ++ g.bytes;
-  shortages = f.shortages ++ g.shortages;
-  caused = λ e. caused-append f.shortages g.shortages (f.caused e) (g.caused e);
-  taken = takes_then a b c f.bytes g.bytes f.taken g.taken;
-  given = f.given ++ g.given;
-  wrote = wrote_both x y z f.given g.given f.wrote g.wrote;
-  notes = notes_both first next both join f.given g.given f.notes g.notes;
-  law = λ rest e.
-      ap (λ v. answered p (asks Ended Between n (lines_until Ended v)) (f.shortages ++ g.shortages))
-      (append_assoc f.bytes g.bytes rest)
-      ∙ f.law Ended (g.bytes ++ rest) g.shortages ∙ ap (λ v. f.given ++ v) (g.law rest e);
-}
+  end_on : (bytes : List ℕ) (shortages : List Shortage) (stop : End) (more : List ℕ)
+      → answered p (asks stop Between n (lines_until stop ((f.bytes ++ bytes) ++ more))) (f.shortages ++ shortages)
+      ≡ f.given ++ answered q (asks stop Between m (lines_until stop (bytes ++ more))) shortages
+  end_on bytes shortages stop more = grind (arith, append_assoc, f.law)
 
-pub answers_stops : (noted : List Answered → Type 0) (prompt : Bool) (a b c : Ahead) (x y z : Option (List ℕ)) (p q : Session)
-    (n m : ℕ) → Answers noted prompt a b x y p q n m → StopsTelling prompt b c y z q m → StopsTelling prompt a c x z p n
-answers_stops noted prompt a b c x y z p q n m f g = record {
-  bytes = f.bytes ++ g.bytes;
-  shortages = f.shortages ++ g.shortages;
-  caused = λ e. caused-append f.shortages g.shortages (f.caused e) (g.caused e);
-  taken = takes_then a b c f.bytes g.bytes f.taken g.taken;
-  law = λ rest e.
-      let all = asks Ended Between m (lines_until Ended (g.bytes ++ rest)) in
-      let same = ap (λ v. replies_to p (asks Ended Between n (lines_until Ended v)) (f.shortages ++ g.shortages))
-      (append_assoc f.bytes g.bytes rest)
-      ∙ replies_told p (asks Ended Between n (lines_until Ended (f.bytes ++ (g.bytes ++ rest)))) (f.shortages ++ g.shortages)
-      ∙ ap told_to (f.law Ended (g.bytes ++ rest) g.shortages)
-      ∙ texts-append f.given (answered q all g.shortages)
-      ∙ ap (λ v. told_to f.given ++ v) (sym (replies_told q all g.shortages)) in
-      subst (AppendsFront x z) (sym same)
-      (front_then x y z (told_to f.given) (replies_to q all g.shortages) f.wrote (g.law rest e));
-}
+  pub answers_answers : (next both : List Answered → Type 0) (s : Session) (k : ℕ)
+      → ((ps qs : List Answered) → first ps → next qs → both (ps ++ qs))
+      → Answers next prompt b c y z q s m k → Answers both prompt a c x z p s n k
+  answers_answers next both s k join g = record {
+    bytes = f.bytes ++ g.bytes;
+    shortages = f.shortages ++ g.shortages;
+    caused = λ e. all_append IsCaused f.shortages g.shortages (f.caused e) (g.caused e);
+    given = f.given ++ g.given;
+    taken = takes_then a b c f.bytes g.bytes f.taken g.taken;
+    wrote = wrote_both x y z f.given g.given f.wrote g.wrote;
+    notes = notes_both first next both join f.given g.given f.notes g.notes;
+    law = λ stop more later. go_on g.bytes g.shortages stop more later ∙ ap (λ v. f.given ++ v) (g.law stop more later)
+        ∙ sym (append_assoc f.given g.given (answered s (asks stop Between k (lines_until stop more)) later));
+  }
+
+  pub answers_finishes : (next both : List Answered → Type 0)
+      → ((ps qs : List Answered) → first ps → next qs → both (ps ++ qs))
+      → Finishes next prompt b c y z q m → Finishes both prompt a c x z p n
+  answers_finishes next both join g = record {
+    bytes = f.bytes ++ g.bytes;
+    shortages = f.shortages ++ g.shortages;
+    caused = λ e. all_append IsCaused f.shortages g.shortages (f.caused e) (g.caused e);
+    taken = takes_then a b c f.bytes g.bytes f.taken g.taken;
+    given = f.given ++ g.given;
+    wrote = wrote_both x y z f.given g.given f.wrote g.wrote;
+    notes = notes_both first next both join f.given g.given f.notes g.notes;
+    law = λ rest e. end_on g.bytes g.shortages Ended rest ∙ ap (λ v. f.given ++ v) (g.law rest e);
+  }
+
+  pub answers_stops : StopsTelling prompt b c y z q m → StopsTelling prompt a c x z p n
+  answers_stops g = record {
+    bytes = f.bytes ++ g.bytes;
+    shortages = f.shortages ++ g.shortages;
+    caused = λ e. all_append IsCaused f.shortages g.shortages (f.caused e) (g.caused e);
+    taken = takes_then a b c f.bytes g.bytes f.taken g.taken;
+    law = λ rest e.
+        let all = asks Ended Between m (lines_until Ended (g.bytes ++ rest)) in
+        subst (AppendsFront x z)
+        (sym (replies_told p (asks Ended Between n (lines_until Ended ((f.bytes ++ g.bytes) ++ rest)))
+        (f.shortages ++ g.shortages) ∙ ap told_to (end_on g.bytes g.shortages Ended rest)
+        ∙ texts-append f.given (answered q all g.shortages)
+        ∙ ap (λ v. told_to f.given ++ v) (sym (replies_told q all g.shortages))))
+        (front_then x y z (told_to f.given) (replies_to q all g.shortages) f.wrote (g.law rest e));
+  }
 
 pub answers_breaks : (noted : List Answered → Type 0) (prompt : Bool) (a b c : Ahead) (x y : Option (List ℕ)) (q : Session)
     (m : ℕ) → Answers noted prompt a b x y opening_session q 1 m → BreaksOff b c Between m → AnswersWhole prompt a c x y
-answers_breaks noted prompt a b c x y q m f g =
-    let all : replies_by Broken (f.bytes ++ g.bytes) (f.shortages ++ []) ≡ told_to f.given
-    = replies_told opening_session (asks Broken Between 1 (lines_until Broken (f.bytes ++ g.bytes))) (f.shortages ++ [])
-    ∙ ap told_to (f.law Broken g.bytes [] ∙ ap (λ v. f.given ++ answered q v []) g.law ∙ append-nil f.given) in
-    record {
-      read = f.bytes ++ g.bytes;
-      shortages = f.shortages ++ [];
-      caused = λ e. caused-append f.shortages [] (f.caused e) tt;
-      taken = takes_then a b c f.bytes g.bytes f.taken g.taken;
-      wrote = subst (Appends x y) (sym all) f.wrote;
-    }
+answers_breaks noted prompt a b c x y q m f g = record {
+  read = f.bytes ++ g.bytes;
+  shortages = f.shortages ++ [];
+  caused = λ e. all_append IsCaused f.shortages [] (f.caused e) tt;
+  taken = takes_then a b c f.bytes g.bytes f.taken g.taken;
+  wrote = subst (Appends x y) (sym (replies_told opening_session
+      (asks Broken Between 1 (lines_until Broken (f.bytes ++ g.bytes))) (f.shortages ++ [])
+      ∙ ap told_to (f.law Broken g.bytes [] ∙ ap (λ v. f.given ++ answered q v []) g.law ∙ append-nil f.given))) f.wrote;
+}
 
 -- at the beginning
 pub answers_none : (noted : List Answered → Type 0) (prompt : Bool) (a b : Ahead) (x : Option (List ℕ)) (p q : Session) (n : ℕ)
@@ -348,62 +319,45 @@ told_script : (x z : Option (List ℕ)) (script : List ℕ) (shortages : List Sh
     → Appends x z (told_to (answered_with script shortages)) → Appends x z (replies_with script shortages)
 told_script x z script shortages wrote = grind (arith, replies_told)
 
--- at the end
-all_finished : {V : Type 0} (notes : V → BookState → V → Type 0) (missed : ℕ) (p q : PostView) (first last : BookState)
-    (old new : V) (a c x z : Option (List ℕ)) (bytes : List ℕ) (given : List Answered) (shortages : List Shortage)
-    → first.plan ≡ opening 0 → AllCausedOver p.is_prompt shortages → Consumes a c bytes → Appends x z (told_to given)
-    → NotesEach notes (moment 0 p first old) (moment missed q last new) (but_bye given)
-    → ((rest : List ℕ) → c ≡ Some rest → answered_with (bytes ++ rest) shortages ≡ given)
-    → IfSome a (NotesScript notes missed p q x z old new)
-all_finished notes missed p q first last old new None c x z bytes given shortages opens caused taken wrote noted law = tt
-all_finished notes missed p q first last old new (Some script) None x z bytes given shortages opens caused taken wrote noted
-    law = absurd taken
-all_finished notes missed p q first last old new (Some script) (Some rest) x z bytes given shortages opens caused taken wrote
-    noted law =
-    let is : given ≡ answered_with script shortages = sym (ap (λ v. answered_with v shortages) taken ∙ law rest refl) in
-    record {
-      shortages = shortages;
-      caused = caused;
-      wrote = told_script x z script shortages (subst (λ v. Appends x z (told_to v)) is wrote);
-      first = first;
-      opens = opens;
-      last = last;
-      noted = subst (λ v. NotesEach notes (moment 0 p first old) (moment missed q last new) (but_bye v)) is noted;
-    }
+-- what holds of all that was read and of what is left holds of the script
+if_read : (P : List ℕ → Type 0) (a c : Option (List ℕ)) (bytes : List ℕ) → Consumes a c bytes
+    → ((rest : List ℕ) → c ≡ Some rest → P (bytes ++ rest)) → IfSome a P
+if_read P None c bytes taken law = tt
+if_read P (Some script) None bytes taken law = absurd taken
+if_read P (Some script) (Some rest) bytes taken law = subst P (sym taken) (law rest refl)
 
--- whatever was noted
-all_told : (prompt : Bool) (a c x z : Option (List ℕ)) (bytes : List ℕ) (given : List Answered) (shortages : List Shortage)
-    → AllCausedOver prompt shortages → Consumes a c bytes → Appends x z (told_to given)
-    → ((rest : List ℕ) → c ≡ Some rest → answered_with (bytes ++ rest) shortages ≡ given)
-    → IfSome a (AnswersAll prompt x z)
-all_told prompt a c x z bytes given shortages caused taken wrote law = grind (arith, told_script)
-
--- so its run completes, and what was noted of it is known
+-- at the end its run completes, and what was noted of it is known
 pub completed : {R W V : Type 0} (notes : V → BookState → V → Type 0) (missed : ℕ) (p q : PostView)
     (first last : BookState) (old new : V) (r s : LineReading R) (w x : CountedWriting W) → first.plan ≡ opening 0
     → Finishes (NotesEach notes (moment 0 p first old) (moment missed q last new)) p.is_prompt r.ahead s.ahead w.contents
     x.contents opening_session 1
     → Works r s w x → Completes p.is_prompt r s w x × NotesReplies notes missed p q r w x old new
-completed notes missed p q first last old new r s w x opens f works = (
-  record {
-    answered = all_told p.is_prompt r.ahead.bytes s.ahead.bytes w.contents x.contents f.bytes f.given f.shortages f.caused
-        f.taken.consumed f.wrote f.law;
-    works = works;
-  },
-  all_finished notes missed p q first last old new r.ahead.bytes s.ahead.bytes w.contents x.contents f.bytes f.given
-      f.shortages opens f.caused f.taken.consumed f.wrote f.notes f.law,
-)
-
-front_stopped : (prompt : Bool) (a c x z : Option (List ℕ)) (bytes : List ℕ) (shortages : List Shortage)
-    → AllCausedOver prompt shortages → Consumes a c bytes
-    → ((rest : List ℕ) → c ≡ Some rest → AppendsFront x z (replies_with (bytes ++ rest) shortages))
-    → IfSome a (AnswersFront prompt x z)
-front_stopped prompt a c x z bytes shortages caused taken law = grind (arith)
+completed notes missed p q first last old new r s w x opens f works =
+    let wrote = λ (rest : List ℕ) (e : s.ahead.bytes ≡ Some rest).
+    told_script w.contents x.contents (f.bytes ++ rest) f.shortages
+    (subst (λ v. Appends w.contents x.contents (told_to v)) (sym (f.law rest e)) f.wrote) in (
+      record {
+        answered = if_read (AnswersAll p.is_prompt w.contents x.contents) r.ahead.bytes s.ahead.bytes f.bytes
+            f.taken.consumed (λ rest e. record { shortages = f.shortages; caused = f.caused; wrote = wrote rest e });
+        works = works;
+      },
+      if_read (NotesScript notes missed p q w.contents x.contents old new) r.ahead.bytes s.ahead.bytes f.bytes
+          f.taken.consumed (λ rest e. record {
+            shortages = f.shortages;
+            caused = f.caused;
+            wrote = wrote rest e;
+            first = first;
+            opens = opens;
+            last = last;
+            noted = subst (λ v. NotesEach notes (moment 0 p first old) (moment missed q last new) (but_bye v))
+                (sym (f.law rest e)) f.notes;
+          }),
+    )
 
 pub stops_front : (prompt : Bool) (a c : Ahead) (x z : Option (List ℕ)) → StopsTelling prompt a c x z opening_session 1
     → IfSome a.bytes (AnswersFront prompt x z)
-stops_front prompt a c x z f =
-    front_stopped prompt a.bytes c.bytes x z f.bytes f.shortages f.caused f.taken.consumed f.law
+stops_front prompt a c x z f = if_read (AnswersFront prompt x z) a.bytes c.bytes f.bytes f.taken.consumed
+    (λ rest e. record { shortages = f.shortages; caused = f.caused; wrote = f.law rest e })
 
 -- where it stops before the end
 front_noted : {V : Type 0} (notes : V → BookState → V → Type 0) (p q : PostView) (first : BookState) (old new : V)
@@ -414,21 +368,20 @@ front_noted : {V : Type 0} (notes : V → BookState → V → Type 0) (p q : Pos
     → (later : List Answered) × (answered_with (bytes ++ rest) shortages ≡ given ++ later)
     × WatchesNext notes last later q new)
     → IfSome a (NotesFront notes p q old new)
-front_noted notes p q first old new last None c bytes given shortages opens caused taken noted law = tt
-front_noted notes p q first old new last (Some script) None bytes given shortages opens caused taken noted law = absurd taken
-front_noted notes p q first old new last (Some script) (Some rest) bytes given shortages opens caused taken noted law =
-    let so = law rest refl in record {
+front_noted notes p q first old new last a c bytes given shortages opens caused taken noted law =
+    if_read (NotesFront notes p q old new) a c bytes taken (λ rest e.
+    let so = law rest e in record {
       shortages = shortages;
       caused = caused;
       given = given;
       later = so.0;
-      front = subst (λ v. answered_with v shortages ≡ given ++ so.0) (sym taken) so.1;
+      front = so.1;
       first = first;
       opens = opens;
       last = last;
       noted = noted;
       unanswered = so.2;
-    }
+    })
 
 pub begun : {V : Type 0} (notes : V → BookState → V → Type 0) (p : PostView) (first : BookState) (old : V)
     (last : Moment V) (a c : Ahead) (x y : Option (List ℕ)) (j : Session) (m : ℕ) → first.plan ≡ opening 0
@@ -436,7 +389,7 @@ pub begun : {V : Type 0} (notes : V → BookState → V → Type 0) (p : PostVie
     → IfSome a.bytes (NotesFront notes p last.post old last.seen)
 begun notes p first old last a c x y j m opens f =
     front_noted notes p last.post first old last.seen last a.bytes c.bytes f.bytes f.given (f.shortages ++ []) opens
-    (λ e. caused-append f.shortages [] (f.caused e) tt) f.taken.consumed f.notes
+    (λ e. all_append IsCaused f.shortages [] (f.caused e) tt) f.taken.consumed f.notes
     (λ rest _. let later = answered j (asks Ended Between m (lines_until Ended rest)) [] in
     (later, f.law Ended rest [], unwatched_next notes last later))
 
@@ -449,7 +402,7 @@ pub begun_watched : {V : Type 0} (notes : V → BookState → V → Type 0) (p q
     → WatchesReply notes s.0 r last.post q last.desk k last.seen new → IfSome a.bytes (NotesFront notes p q old new)
 begun_watched notes p q first k old new last a b c x y heard is_last n m request r j t opens f h s watched =
     front_noted notes p q first old new last a.bytes c.bytes (f.bytes ++ h.bytes) f.given (f.shortages ++ s.2.0 ∷ []) opens
-    (λ e. caused-append f.shortages (s.2.0 ∷ []) (f.caused e) (s.2.1 e, tt))
+    (λ e. all_append IsCaused f.shortages (s.2.0 ∷ []) (f.caused e) (s.2.1 e, tt))
     (takes_then a b c f.bytes h.bytes f.taken h.taken).consumed f.notes
     (λ rest e. (
       one_of s.0 k r ∷ cond (ends r) [] (answered (session k t) (asks Ended Between m (lines_until Ended rest)) []),
@@ -464,16 +417,6 @@ begun_watched notes p q first k old new last a b c x y heard is_last n m request
 -- where nothing was read
 pub none_begun : {V : Type 0} (notes : V → BookState → V → Type 0) (p : PostView) (first : BookState) (v : V)
     (bytes : Option (List ℕ)) → first.plan ≡ opening 0 → IfSome bytes (NotesFront notes p p v v)
-none_begun notes p first v None opens = tt
-none_begun notes p first v (Some script) opens = record {
-  shortages = [];
-  caused = λ _. tt;
-  given = [];
-  later = answered_with script [];
-  front = refl;
-  first = first;
-  opens = opens;
-  last = moment 0 p first v;
-  noted = refl;
-  unanswered = unwatched_next notes (moment 0 p first v) (answered_with script []);
-}
+none_begun notes p first v bytes opens = front_noted notes p p first v v (moment 0 p first v) bytes bytes [] [] []
+    opens (λ _. tt) (Consumes-nil bytes) refl
+    (λ rest e. (answered_with rest [], refl, unwatched_next notes (moment 0 p first v) (answered_with rest [])))

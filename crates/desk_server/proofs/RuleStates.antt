@@ -78,9 +78,7 @@ table_of-few lines table h =
     let said = then-ok (lines_of lines) within_limits table h in
     let t : table_values.Table = said.0 in
     let read = lines-read lines t said.1 in
-    let within = passed (nat_lt transition_limit (length (expanded t))) (is_quiescent t) t table said.2 in
-    let few : AreFew t.states = (omega (arith, read.at_least), omega (arith, read.at_most)) in
-    subst (λ (u : table_values.Table). AreFew u.states) within.1 few
+    let within = passed (nat_lt transition_limit (length (expanded t))) (is_quiescent t) t table said.2 in grind (arith)
 
 kind_by-few : (k : SectionKind) (s : Section) (kind : Kind) → kind_by k s ≡ Ok kind → AreFew (states_of_kind kind)
 kind_by-few section.Table s kind h =

@@ -1,9 +1,8 @@
 -- The text that is kept is that of the document's rule.
-use Rattle.std.proofs.Common.{◌≡◌, ◌∙◌, ℕ, ◌+◌, ◌==◌, List, [], ◌∷◌, ◌++◌, Bool, true, false, cond, refl, sym}
-use Rattle.std.proofs.Common.{ap, subst, arith, append-nil, Option, Some, None, Ok}
+use Rattle.std.proofs.Common.{◌≡◌, ◌∙◌, ℕ, ◌+◌, ◌==◌, List, [], ◌∷◌, ◌++◌, Bool, false, cond, refl, sym}
+use Rattle.std.proofs.Common.{ap, subst, arith, append-nil, Option, Ok}
 use Rattle.std.specs.Prelude.{⊤}
 use Rattle.std.specs.List.{AllByRecursion}
-use Rattle.std.proofs.lemmas.Bool.{cond-false}
 use Rattle.std.proofs.lemmas.List.Concat.{flat_map-append}
 use Rattle.basics.proofs.Shared.Lists.{all_append}
 use Rattle.text_lines.specs.LineEnds.{text_of_lines}
@@ -24,16 +23,18 @@ use Rattle.desk_server.specs.declared.fault.ScriptFault.TheVariants.{BadCommand,
 use Rattle.desk_server.specs.declared.format.Format.{Format}
 use Rattle.desk_server.specs.declared.format.Format.TheVariants as format
 use Rattle.desk_server.specs.declared.command.Command.{Command}
-use Rattle.desk_server.specs.Command.{command_of, format_of}
-use Rattle.desk_server.specs.Faults.{of_macrocell, of_pattern, of_rule, of_script}
+use Rattle.desk_server.specs.Command.{format_of}
+use Rattle.desk_server.specs.Faults.{Fault, of_macrocell, of_pattern, of_rule, of_script}
 use Rattle.desk_server.specs.Shortage.{Shortage}
-use Rattle.desk_server.specs.Answer.{Ask, Obey, Take, Refuse, Session, answer, edited, id_word, obeyed}
+use Rattle.desk_server.specs.Answer.{After, Ask, Obey, Take, Refuse, Session, answer, edited, id_word, obeyed}
 use Rattle.desk_server.specs.Answer.{opening_session, refused, rule_text_after, session_after, started, taken}
+use Rattle.desk_server.specs.Answer.{unless_fault, unless_memory}
+use Rattle.std.specs.Prelude.{Result}
+use Rattle.std.proofs.lemmas.Bool.Decides.{nat_tests}
 use Rattle.desk_server.specs.Script.{Between, InText, Place, asked_at, asked_by, asks, first_shortage}
 use Rattle.desk_server.specs.Script.{later_shortages, place_behind}
 use Rattle.desk_server.specs.Anew.{HasText, KeptTextsAreRules, sessions}
-use Rattle.desk_server.proofs.OneLine.{Fits, LineFits, TakesNoRule, all-map, any-line, asks-fit}
-use Rattle.desk_server.proofs.OneLine.{made-keeps}
+use Rattle.desk_server.proofs.OneLine.{Fits, LineFits, TakesNoRule, each-line, asks-fit, made-keeps}
 use Rattle.desk_server.proofs.OneLine.{unless_fault-keeps, unless_memory-keeps}
 use Rattle.desk_server.proofs.Remade.{AreTextLines}
 use Rattle.desk_server.proofs.Replies.{rule-same}
@@ -69,8 +70,7 @@ from-full begun (b ∷ bs) h = either (b == 10) refl (from-full [] bs tt) (from-
     either : (v : Bool) → (b == 10) ≡ v → AreFull (lines_from Ended [] bs)
         → (NoLineFeed (begun ++ b ∷ []) → AreFull (lines_from Ended (begun ++ b ∷ []) bs))
         → AreFull (cond v (full_line begun ∷ lines_from Ended [] bs) (lines_from Ended (begun ++ b ∷ []) bs))
-    either true e ended on = full-more begun (lines_from Ended [] bs) h ended
-    either false e ended on = on (no_line_feed-append begun (b ∷ []) h (e, tt))
+    either v e ended on = grind (arith, full-more, no_line_feed-append)
 
 -- a text that is asked to be taken is such a text
 abbrev AsksText : Ask → Type 0
@@ -122,9 +122,7 @@ asks-texts Between n (line ∷ rest) begun full =
         → AllByRecursion AsksText
         (cond passed (asks Ended Between (n + 1) rest)
         (asked_at n line.says o ++ asks Ended (place_behind n o) (n + 1) rest))
-    between true o more = more Between tt
-    between false None more = (asked-none n (command_of line.says), more Between tt)
-    between false (Some f) more = more (InText n f []) no-text
+    between passed o more = grind (arith, asked-none, no-text, more Between, more)
 asks-texts (InText at f text) n (line ∷ rest) begun full =
     inside (is_end line.says) refl (asks-texts Between (n + 1) rest tt (rest-full line rest full))
     (λ goes_on. unless-last at (n + 1) f (text ++ line.raw) line rest full (λ whole.
@@ -136,8 +134,7 @@ asks-texts (InText at f text) n (line ∷ rest) begun full =
         → AllByRecursion AsksText
         (cond ends (Take f text ∷ asks Ended Between (n + 1) rest)
         (asks Ended (InText at f (text ++ line.raw)) (n + 1) rest))
-    inside true e ended on = (begun, ended)
-    inside false e ended on = on e
+    inside ends e ended on = grind (arith)
 
 -- where the rule stays, its text does
 text-same : (p q : Plan) (text : Option (List ℕ)) → q.rule ≡ p.rule → HasText p text → HasText q text
@@ -154,14 +151,18 @@ command-rule short s c h = grind (arith, rule-stays)
 start-rule : (p : Plan) (generation : ℕ) (start : World) → (started p generation start).plan.rule ≡ p.rule
 start-rule p generation start = grind (arith)
 
+short-rule : (short : Shortage) (p : Plan) (after : After) → after.plan.rule ≡ p.rule
+    → (unless_memory short p after).plan.rule ≡ p.rule
+short-rule short p after e = grind (arith)
+
+loaded-rule : {E : Type 0} (p : Plan) (told : E → Fault) (r : Result Loaded E)
+    → (unless_fault p told (λ (l : Loaded). started p l.generation l.plane) r).plan.rule ≡ p.rule
+loaded-rule p told r = grind (arith, start-rule)
+
 taken-text : (s : Session) (text : List ℕ) (rule : FileRule) → IsText text → rule_of text ≡ Ok rule
     → HasText (changed s.plan (ReplaceRule rule)).plan
     (rule_text_after s (Take format.Rule text) (changed s.plan (ReplaceRule rule)).plan)
-taken-text s text rule h means =
-    let q = (changed s.plan (ReplaceRule rule)).plan in
-    subst (HasText q) (sym (cond-false (s.plan.revision + 1 == s.plan.revision) s.rule_text (Some text)
-    (differs (s.plan.revision + 1) s.plan.revision (λ e. omega (arith, e)))))
-    (record { lines = h.lines; is = h.is; whole = h.are.whole; inside = h.are.inside; means = means })
+taken-text s text rule h means = grind (arith, nat_tests, differs)
 
 next-text : (short : Shortage) (s : Session) (ask : Ask) → Fits TakesNoRule ask → AsksText ask
     → HasText s.plan s.rule_text
@@ -176,44 +177,44 @@ next-text short s (Take format.Rule text) h is has =
     (λ rule means. made-keeps K s.plan (changed s.plan (ReplaceRule rule)) (id_word (ReplaceRule rule))
     (λ (d : Changed). d.edited.id) (refusal s.plan (ReplaceRule rule)) now (λ free. taken-text s text rule is means)))
 next-text short s (Take format.Rle text) h is has =
-    let K : Plan → Type 0 = λ q. q.rule ≡ s.plan.rule in
     text-same s.plan (answer short s (Take format.Rle text)).plan s.rule_text
-    (unless_memory-keeps K short s.plan (taken s.plan format.Rle text) refl
-    (unless_fault-keeps K s.plan of_pattern (λ (l : Loaded). started s.plan l.generation l.plane) (pattern_of text) refl
-    (λ l means. start-rule s.plan l.generation l.plane))) has
+    (short-rule short s.plan (taken s.plan format.Rle text) (loaded-rule s.plan of_pattern (pattern_of text))) has
 next-text short s (Take format.Macrocell text) h is has =
-    let K : Plan → Type 0 = λ q. q.rule ≡ s.plan.rule in
     text-same s.plan (answer short s (Take format.Macrocell text)).plan s.rule_text
-    (unless_memory-keeps K short s.plan (taken s.plan format.Macrocell text) refl
-    (unless_fault-keeps K s.plan of_macrocell (λ (l : Loaded). started s.plan l.generation l.plane)
-    (macrocells.pattern_of text) refl (λ l means. start-rule s.plan l.generation l.plane))) has
+    (short-rule short s.plan (taken s.plan format.Macrocell text)
+    (loaded-rule s.plan of_macrocell (macrocells.pattern_of text))) has
 next-text short s (Refuse (BadCommand line)) h is has =
-    let K : Plan → Type 0 = λ q. q.rule ≡ s.plan.rule in
     text-same s.plan (answer short s (Refuse (BadCommand line))).plan s.rule_text
-    (unless_memory-keeps K short s.plan (refused s.plan (of_script (BadCommand line))) refl refl) has
+    (short-rule short s.plan (refused s.plan (of_script (BadCommand line))) refl) has
 next-text short s (Refuse (NoEnd line)) h is has = has
 
-sessions-texts : (s : Session) (asked : List Ask) (shortages : List Shortage)
-    → AllByRecursion (Fits TakesNoRule) asked → AllByRecursion AsksText asked → HasText s.plan s.rule_text
-    → AllByRecursion (λ (t : Session). HasText t.plan t.rule_text) (sessions s asked shortages)
-sessions-texts s [] shortages fits texts has = (has, tt)
-sessions-texts s (ask ∷ rest) shortages fits texts has =
-    let after = answer (first_shortage shortages) s ask in (
-      has,
-      goes-on after.ends (sessions (session_after s ask after.plan) rest (later_shortages shortages))
-          (sessions-texts (session_after s ask after.plan) rest (later_shortages shortages) fits.1 texts.1
-          (next-text (first_shortage shortages) s ask fits.0 texts.0 has)),
+-- what each answer keeps of a session holds in each session
+pub sessions-keep : (K : Session → Type 0) (fits : Ask → Type 0) → ((short : Shortage) (s : Session) (ask : Ask) → fits ask
+    → K s → K (session_after s ask (answer short s ask).plan)) → (s : Session) (asked : List Ask) (shortages : List Shortage)
+    → AllByRecursion fits asked → K s → AllByRecursion K (sessions s asked shortages)
+sessions-keep K fits step s [] shortages fit k = (k, tt)
+sessions-keep K fits step s (ask ∷ rest) shortages fit k =
+    let after = answer (first_shortage shortages) s ask in
+    let next = session_after s ask after.plan in (
+      k,
+      unless_ends after.ends (sessions next rest (later_shortages shortages)) (sessions-keep K fits step next rest
+          (later_shortages shortages) fit.1 (step (first_shortage shortages) s ask fit.0 k)),
     )
   where
-    goes-on : (v : Bool) (later : List Session) → AllByRecursion (λ (t : Session). HasText t.plan t.rule_text) later
-        → AllByRecursion (λ (t : Session). HasText t.plan t.rule_text) (cond v [] later)
-    goes-on true later h = tt
-    goes-on false later h = h
+    unless_ends : (v : Bool) (later : List Session) → AllByRecursion K later → AllByRecursion K (cond v [] later)
+    unless_ends v later h = grind (arith)
 
 pub kept-texts : KeptTextsAreRules
 kept-texts script shortages =
     let lines = lines_until Ended script in
-    sessions-texts opening_session (asks Ended Between 1 lines) shortages
-    (asks-fit TakesNoRule Ended Between 1 lines
-    (all-map (λ (line : Line). ⊤) (LineFits TakesNoRule) lines (λ line e a said. said.rule) (any-line lines)))
-    (asks-texts Between 1 lines tt (from-full [] script tt)) refl
+    let asked = asks Ended Between 1 lines in
+    sessions-keep (λ (t : Session). HasText t.plan t.rule_text) (λ ask. Fits TakesNoRule ask × AsksText ask)
+    (λ short s ask fits has. next-text short s ask fits.0 fits.1 has) opening_session asked shortages
+    (all_both (Fits TakesNoRule) AsksText asked
+    (asks-fit TakesNoRule Ended Between 1 lines (each-line (LineFits TakesNoRule) (λ line a said. said.rule) lines))
+    (asks-texts Between 1 lines tt (from-full [] script tt))) refl
+  where
+    all_both : (F G : Ask → Type 0) (asked : List Ask) → AllByRecursion F asked → AllByRecursion G asked
+        → AllByRecursion (λ ask. F ask × G ask) asked
+    all_both F G [] h k = tt
+    all_both F G (ask ∷ rest) h k = ((h.0, k.0), all_both F G rest h.1 k.1)

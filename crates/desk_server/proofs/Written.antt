@@ -119,12 +119,7 @@ module _ (p : Plan) (sound : IsSound p) (small : IsCount p.revision) where
       → AllByRecursion (λ (x : Branch). x.id ≤ p.last_branch) xs
       → AllByRecursion (λ (x : Branch). IsCount x.id × IsWritten (add_branch x)) xs
   branch-one [] forked given = tt
-  branch-one (x ∷ xs) forked given =
-      let one = forked.0 in
-      let near = one.near in (
-        (omega (arith, given.0, last-branch), (placed-counts x.parent x.fork one.placed, omega (arith, near))),
-        branch-one xs forked.1 given.1,
-      )
+  branch-one (x ∷ xs) forked given = grind (arith, last-branch, placed-counts, branch-one xs forked.1 given.1)
 
   bookmark-one : (xs : List Bookmark) → AllByRecursion (λ (b : Bookmark). b.id ≤ p.last_bookmark) xs
       → AreMarked p.branches xs → AllByRecursion (λ (b : Bookmark). b.generation ≤ 2 ^ 60) xs

@@ -1,4 +1,4 @@
-use Rattle.std.proofs.Common.{refl, subst, rules}
+use Rattle.std.proofs.Common.{arith, refl, subst, rules}
 use Rattle.script_lines.specs.Faults.{AppendsFront, Wrote}
 use Rattle.script_lines.proofs.Shared.Told.{front_first, front_then, wrote_err}
 use Rattle.desk_server.specs.Listed.{lines_of}
@@ -7,22 +7,10 @@ use Rattle.desk_server.proofs.Parts.{wrote_then}
 use Rattle.desk_server.proofs.listing.tell_list.Goals as goal
 
 pub returns-in_err-tell_branches-clause-bytes : goal.returns-in_err-tell_branches-clause-bytes
-returns-in_err-tell_branches-clause-bytes g c =
-    let d = c.args.desk.now in
-    wrote_err _ _ c.from_residual.result _ c.from_residual.ensures.0
-    (subst (AppendsFront _ _)
-    (all-lines d c.branches-branches.result.now d.plan.interventions (lines_of d.plan) (search rules) refl refl)
-    (front_first _ _ _ _ c.in_err-tell_branches.ensures.bytes))
+returns-in_err-tell_branches-clause-bytes g c = grind (arith, all-lines, front_first, wrote_err)
 
 pub returns-in_err-tell_interventions-clause-bytes : goal.returns-in_err-tell_interventions-clause-bytes
-returns-in_err-tell_interventions-clause-bytes g c =
-    let d = c.args.desk.now in
-    wrote_err _ _ c.from_residual-in_err-tell_interventions.result _ c.from_residual-in_err-tell_interventions.ensures.0
-    (subst (AppendsFront _ _)
-    (all-lines d c.branches-branches.result.now c.interventions-interventions.result.now (lines_of d.plan) (search rules)
-    (search rules) refl)
-    (front_then _ _ _ _ _ c.in_ok-tell_branches.ensures.bytes
-    (front_first _ _ _ _ c.in_err-tell_interventions.ensures.bytes)))
+returns-in_err-tell_interventions-clause-bytes g c = grind (arith, all-lines, front_first, front_then, wrote_err)
 
 pub returns-in_err-tell_bookmarks-clause-bytes : goal.returns-in_err-tell_bookmarks-clause-bytes
 returns-in_err-tell_bookmarks-clause-bytes g c =

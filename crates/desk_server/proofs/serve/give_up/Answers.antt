@@ -1,18 +1,11 @@
-use Rattle.std.proofs.Common.{◌∙◌, ◌<◌, ◌^◌, refl, sym, subst, rules}
+use Rattle.std.proofs.Common.{arith, ◌∙◌, ◌<◌, ◌^◌, sym, subst, rules}
 use Rattle.dependency_book.specs.Jobs.{IsFirstOut}
 use Rattle.desk_core.proofs.Shared.Causes.{explains-cancelled}
 use Rattle.desk_server.proofs.Jobs.{drops_none, drops_drops, cancel_drops, first_falls, numbers_from}
 use Rattle.desk_server.proofs.serve.give_up.Goals as goal
 
 pub loop-first-init : goal.loop-first-init
-loop-first-init c =
-    record {
-      plan = refl;
-      drops = drops_none _ _ refl;
-      causes = λ limit first answers cause h.
-          h;
-      first = c.first_out-first.ensures;
-    }
+loop-first-init c = grind (arith, drops_none)
 
 pub loop-first-smaller : goal.loop-first-smaller
 loop-first-smaller c =

@@ -1,21 +1,16 @@
+use Rattle.std.proofs.Common.{arith}
 use Rattle.desk_server.proofs.Replies.{serves-memory, serves-refused, serves-taken, none-lacks, keeps-same, keeps-obeyed, keeps-taken}
 use Rattle.desk_server.proofs.Noted.{looked_obeyed, looked_none, looked_refused, looked_taken}
-use Rattle.desk_server.specs.Heard.{session}
 use Rattle.desk_server.proofs.serve.serve.Goals as goal
 
 pub returns-in-Obey-clause-kept : goal.returns-in-Obey-clause-kept
-returns-in-Obey-clause-kept g c = keeps-obeyed c.args.request c.in-Obey.command
-    (session c.args.desk.now c.args.rule.now) c.obey.new.desk c.in-Obey.is
+returns-in-Obey-clause-kept g c = grind (arith, keeps-obeyed)
 
 pub returns-in-Take-clause-answer : goal.returns-in-Take-clause-answer
-returns-in-Take-clause-answer g c =
-    serves-taken _ c.args.request c.in-Take.format c.in-Take.text c.take_text.result c.args.desk.now c.take_text.new.desk
-    c.args.rule.now c.in-Take.is c.take_text.ensures.answer
+returns-in-Take-clause-answer g c = grind (arith, serves-taken)
 
 pub returns-in-Take-clause-kept : goal.returns-in-Take-clause-kept
-returns-in-Take-clause-kept g c =
-    keeps-taken c.args.request c.in-Take.format c.in-Take.text (session c.args.desk.now c.args.rule.now)
-    c.take_text.new.desk c.take_text.new.rule c.in-Take.is c.take_text.ensures.kept
+returns-in-Take-clause-kept g c = grind (arith, keeps-taken)
 
 pub returns-in-Refuse-clause-answer : goal.returns-in-Refuse-clause-answer
 returns-in-Refuse-clause-answer g c =
@@ -36,10 +31,7 @@ pub returns-in-NoMemory-clause-kept : goal.returns-in-NoMemory-clause-kept
 returns-in-NoMemory-clause-kept g c = keeps-same c.args.request c.args.desk.now c.args.rule.now
 
 pub returns-in-Obey-clause-looked : goal.returns-in-Obey-clause-looked
-returns-in-Obey-clause-looked g c =
-    looked_obeyed g.O.Onlooker.sees c.args.request c.in-Obey.command c.obey.result (g.P.Post.view c.args.post.now)
-    (g.P.Post.view c.obey.new.post) c.args.desk.now c.obey.new.desk c.args.onlooker.now c.obey.new.onlooker c.in-Obey.is
-    c.obey.ensures.looked
+returns-in-Obey-clause-looked g c = grind (arith, looked_obeyed)
 
 pub returns-in-Take-clause-looked : goal.returns-in-Take-clause-looked
 returns-in-Take-clause-looked g c =
