@@ -130,7 +130,8 @@ digits-first (d ∷ ds) rest some h =
 reads-signed : (z : ℤ) → FitsSigned w64 z → coordinate (signed_decimal z) ≡ Some z
 reads-signed (pos n) h =
     let wide : IsCount n = grind (arith, ints) in
-    grind (arith, ints, digits-first (decimal n) [], decimal-some, decimal-bytes, append-nil, number_of-decimal)
+    let first = digits-first (decimal n) [] in
+    grind (arith, ints, first, decimal-some, decimal-bytes, append-nil, number_of-decimal)
 reads-signed (negsuc n) h =
     let wide : IsCount (suc n) = grind (arith, ints) in grind (arith, ints, number_of-decimal)
 
@@ -326,5 +327,6 @@ every-line b first every last cs h i j k w =
     refl refl refl
     (grind (arith, counts, set-read))
 
-pub edit-lines : EditLinesReadBack
-edit-lines x0 h = grind (arith, bookmark-line, branch-line, drop-line, every-line, once-line, unbranch-line, unmark-line)
+pub lines_read_back : EditLinesReadBack
+lines_read_back asked h = grind
+    (arith, bookmark-line, branch-line, drop-line, every-line, once-line, unbranch-line, unmark-line)

@@ -18,8 +18,8 @@ use Rattle.desk_server.specs.Script.{Between, asks}
 use Rattle.desk_server.specs.Anew.{HasText, IsCounted, IsMadeAnew, WhateverIsScriptedIsMadeAnew, sessions}
 use Rattle.desk_server.proofs.OneLine.{Fits, KeepsLimits, LineFits, SetsSome, Stays, answer-keeps, each-line}
 use Rattle.desk_server.proofs.OneLine.{asks-fit, limits-stay, opening-keeps}
-use Rattle.desk_server.proofs.Remade.{scripts-anew}
-use Rattle.desk_server.proofs.RuleTexts.{kept-texts, sessions-keep}
+use Rattle.desk_server.proofs.Remade.{scripts_anew}
+use Rattle.desk_server.proofs.RuleTexts.{kept_texts, sessions-keep}
 
 -- an intervention that can be written
 abbrev CanStand : Intervention → Type 0
@@ -66,20 +66,21 @@ opening-kept : IsKept (opening 0)
 opening-kept = record { limits = opening-keeps; numbered = numbered_opening 0; stand = tt }
 
 session-anew : (s : Session) → IsKept s.plan → HasText s.plan s.rule_text → IsMadeAnew s
-session-anew s k has few left = grind (arith, all_so, made, rows_few, scripts-anew)
+session-anew s k has few left = grind (arith, all_so, made, rows_few, scripts_anew)
 
 all-anew : (ss : List Session) → AllByRecursion (λ (t : Session). IsKept t.plan) ss
     → AllByRecursion (λ (t : Session). HasText t.plan t.rule_text) ss → AllByRecursion IsMadeAnew ss
 all-anew [] k h = tt
 all-anew (s ∷ ss) k h = (session-anew s k.0 h.0, all-anew ss k.1 h.1)
 
-pub scripted-anew : WhateverIsScriptedIsMadeAnew
-scripted-anew script shortages =
+pub scripted_anew : WhateverIsScriptedIsMadeAnew
+scripted_anew script shortages =
     let lines = lines_until Ended script in
     let asked = asks Ended Between 1 lines in
     all-anew (sessions opening_session asked shortages)
     (sessions-keep (λ (t : Session). IsKept t.plan) (Fits IsSuch)
     (λ short s ask fits k. answer-keeps IsKept IsSuch kept-stays short s ask fits k) opening_session asked shortages
-    (asks-fit IsSuch Ended Between 1 lines (each-line (LineFits IsSuch) (λ line a said. (said.states, said.rows)) lines))
+    (asks-fit IsSuch Ended Between 1 lines (each-line (LineFits IsSuch)
+    (λ line a said. (said.states, said.rows)) lines))
     opening-kept)
-    (kept-texts script shortages)
+    (kept_texts script shortages)

@@ -26,7 +26,8 @@ pub asks-text : (stop : End) (at : ℕ) (f : Format) (kept : List ℕ) (n : ℕ)
     (n + length lines + 1) rest
 asks-text stop at f kept n [] closing rest inside ends = grind (arith, append-nil)
 asks-text stop at f kept n (line ∷ lines) closing rest inside ends =
-    grind (arith, append_assoc, asks-text stop at f (kept ++ line.raw) (n + 1) lines closing rest inside.1 ends)
+    let rest_is = asks-text stop at f (kept ++ line.raw) (n + 1) lines closing rest inside.1 ends in
+    grind (arith, append_assoc, rest_is)
 
 -- where none is `end`, the text has no end
 asks-open_text : (stop : End) (at : ℕ) (f : Format) (kept : List ℕ) (n : ℕ) (lines : List Line) → NoneEnds lines
@@ -85,11 +86,6 @@ breaks-text old mid new format kept first n e t passed text b = record {
 }
 
 -- nothing follows the command of a text
-nothing-follows : (stop : End) (n m : ℕ) (format : Format) (more : List ℕ) → Follows true stop more
-    → asks stop (InText n format []) m (lines_until stop more) ≡ Refuse (NoEnd n) ∷ asks stop Between m
-    (lines_until stop more)
-nothing-follows stop n m format more f = grind (arith)
-
 pub hears-last_text : (old new : Ahead) (format : Format) (kept : KeptLine) (last : Bool) (n k : ℕ) → last ≡ true
     → k ≡ n → (t : LineTaken last old new kept) → is_passed_over t.line.says ≡ false
     → format_of t.line.says ≡ Some format
@@ -98,7 +94,7 @@ hears-last_text old new format kept last n k e same t passed text = record {
   bytes = t.line.raw;
   asked = Refuse (NoEnd n) ∷ [];
   taken = t.taken;
-  law = λ stop more f. grind (arith, asks-text_command, nothing-follows, t.law stop more f);
+  law = λ stop more f. grind (arith, asks-text_command, t.law stop more f, e, f);
   is = (Refuse (NoEnd n), refl, ap (λ v. Refuse (NoEnd v)) (sym same));
   at_end = t.at_end;
 }
@@ -117,19 +113,13 @@ hears-whole_text format text old new last n m t = record {
 }
 
 -- a text without one
-open-law : (stop : End) (format : Format) (n k m : ℕ) (bytes more : List ℕ) → NoneEnds (lines_until Ended bytes)
-    → Follows true stop more
-    → asks stop (InText n format []) k (lines_until stop (bytes ++ more)) ≡ Refuse (NoEnd n) ∷ asks stop Between m
-    (lines_until stop more)
-open-law stop format n k m bytes more inside f = grind (arith, append-nil, asks-open_text)
-
 hears-open_text : (format : Format) (old new : Ahead) (n m : ℕ) → NoEndAmong Ended old new → IsAtEnd new.bytes
     → Hears old new (InText n format []) (Some (request.Refuse (NoEnd n))) true (n + 1) m
 hears-open_text format old new n m t end = record {
   bytes = t.bytes;
   asked = Refuse (NoEnd n) ∷ [];
   taken = t.taken;
-  law = λ stop more f. open-law stop format n (n + 1) m t.bytes more t.inside f;
+  law = λ stop more f. grind (arith, append-nil, asks-open_text, t.inside, f);
   is = (Refuse (NoEnd n), refl, refl);
   at_end = λ _. end;
 }

@@ -35,15 +35,11 @@ pub drops_drops : (a b c : BookState) → DropsJobs a b → DropsJobs b c → Dr
 drops_drops a b c f g = grind (arith)
 
 -- what is out of a row that was emptied or not
-left_out : {V : Type 0} (b : Bool) (row : RowState V) (job : Job) → job_of (cond b Empty row) ≡ Some job
-    → (job_of row ≡ Some job) × (b ≡ false)
-left_out b row job e = grind (arith)
-
 -- cancelling
 cancelled_out : (n : ℕ) (old new : BookState) → ((need : Need) → row_of new need ≡ cancelled n (row_of old need))
     → (need : Need) (job : Job) → expected new need ≡ Some job
     → (expected old need ≡ Some job) × (has_number n (expected old need) ≡ false)
-cancelled_out n old new rows need job e = grind (arith, left_out)
+cancelled_out n old new rows need job e = grind (arith)
 
 pub cancel_drops : (n : ℕ) (old new : BookState) → ((need : Need) → row_of new need ≡ cancelled n (row_of old need))
     → SameBook old new → DropsJobs old new
@@ -77,18 +73,15 @@ kept_arrival : (at_start keeps : Bool) (world : World) (row : RowState World) (j
     → job_of (cond at_start (Known world) (cond keeps row Empty)) ≡ Some job → job_of row ≡ Some job
 kept_arrival at_start keeps world row job e = grind (arith)
 
-kept_text : {V : Type 0} (keeps : Bool) (row : RowState V) (job : Job) → job_of (cond keeps row Empty) ≡ Some job
-    → job_of row ≡ Some job
-kept_text keeps row job e = grind (arith)
-
 kept_of : {V : Type 0} (branches : List Branch) (felt : Option Mark) (asked : Asked) (bookmark : Option Bookmark)
     (row : RowState V) (job : Job) → job_of (text_kept branches felt asked bookmark row) ≡ Some job
     → job_of row ≡ Some job
-kept_of branches felt asked bookmark row job e = grind (arith, kept_text)
+kept_of branches felt asked bookmark row job e = grind (arith)
 
 edit_keeps_out : (asked : Asked) (felt : Option Mark) (old new : BookState) → KeepsRows asked felt old new
     → (need : Need) (job : Job) → expected new need ≡ Some job → expected old need ≡ Some job
-edit_keeps_out asked felt old new keeps (Step branch g) job e = grind (arith, kept_arrival, out_of_map, keeps.arrivals (mark_at branch g))
+edit_keeps_out asked felt old new keeps (Step branch g) job e = grind
+    (arith, kept_arrival, out_of_map, keeps.arrivals (mark_at branch g))
 edit_keeps_out asked felt old new keeps (View id) job e = grind (arith, kept_of, out_of_map, keeps.texts id)
 
 pub edit_drops : (asked : Asked) (old new : BookState) → Revises asked old new → DropsJobs old new

@@ -45,7 +45,8 @@ pub edit-lacks : (e : Option Edit) (n : ℕ) → CanLackMemory (asked_by n (opti
 edit-lacks e n = other-lacks n (option_map command.Edit e) (edit-open e)
 
 -- a word is as long as what it is
-short : (word text : List ℕ) → bytes_eq word text ≡ true → (bytes_eq word text ≡ true) × (length word ≡ length text)
+short : (word text : List ℕ) → bytes_eq word text ≡ true → (bytes_eq word text ≡ true) ×
+    (length word ≡ length text)
 short word text e = (e, ap length ((bytes_eq-Decides word text).0 e))
 
 -- where no word may follow, none does

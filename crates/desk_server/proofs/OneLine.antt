@@ -1,5 +1,5 @@
 -- What stays of a document while a script is answered.
-use Rattle.std.proofs.Common.{◌≡◌, ℕ, ◌<◌, List, [], ◌∷◌, ◌++◌, Bool, true, false, cond, codes, Option, Some, None, IfSome, Result, Ok, refl, subst, arith, min, ◌-◌, ◌^◌, ◌+◌, length}
+use Rattle.std.proofs.Common.{◌≡◌, ℕ, ◌<◌, List, [], ◌∷◌, ◌++◌, Bool, true, false, cond, codes, Option, Some, None, IfSome, Result, Ok, refl, arith, min, ◌-◌, ◌^◌, ◌+◌, length}
 use Rattle.std.proofs.lemmas.Bool.Decides.{nat_tests}
 use Rattle.std.specs.List.{AllByRecursion}
 use Rattle.std.specs.Option.{option_map, option_zip}
@@ -118,7 +118,8 @@ branch-if adds b u v w o q m h k = grind (arith)
 
 in_branch-says : (adds : Bool) (b : ℕ) (word : List ℕ) (rest : List (List ℕ))
     → SaysSuch adds (edit_in_branch b word rest)
-in_branch-says adds b word rest = branch-if adds b (bytes_eq word (codes "at")) (bytes_eq word (codes "every"))
+in_branch-says adds b word rest = branch-if adds b (bytes_eq word (codes "at"))
+    (bytes_eq word (codes "every"))
     (bytes_eq word (codes "mark")) (counted cells_set rest) (repeated_of rest) (counted view_of rest)
     (once-some rest) (repeated-some rest)
 
@@ -131,20 +132,22 @@ on-says : (adds : Bool) (rest : List (List ℕ)) → SaysSuch adds (on_of rest)
 on-says adds rest = grind (arith, named-says)
 
 further-if : (a b c d : Bool) (m : Option (ℕ × ℕ)) (i : Option ℕ) (e : Option Edit) → SaysSuch false e
-    → SaysSuch c (cond a (option_map (λ r. edit.MoveBookmark r.0 r.1) m) (cond b (option_map edit.RemoveBookmark i)
+    → SaysSuch c (cond a (option_map (λ r. edit.MoveBookmark r.0 r.1) m)
+    (cond b (option_map edit.RemoveBookmark i)
     (cond c (option_map (λ r. edit.AddBranch r.0 r.1) m) (cond d (option_map edit.RemoveBranch i) e))))
 further-if a b c d m i e h = grind (arith)
 
 further-says : (word : List ℕ) (rest : List (List ℕ)) → SaysSuch (bytes_eq word (codes "branch"))
     (further_edit_by word rest)
 further-says word rest = further-if (bytes_eq word (codes "move")) (bytes_eq word (codes "unmark"))
-    (bytes_eq word (codes "branch")) (bytes_eq word (codes "unbranch")) (counted one_count rest) (one_count rest)
-    (edit_in_branch 0 word rest) (in_branch-says false 0 word rest)
+    (bytes_eq word (codes "branch")) (bytes_eq word (codes "unbranch")) (counted one_count rest)
+    (one_count rest) (edit_in_branch 0 word rest) (in_branch-says false 0 word rest)
 
 changed-if : (adds : Bool) (id : ℕ) (u : Bool) (q : Option Repeated) (o : Option (ℕ × List CellSet))
     → IfSome q (λ (r : Repeated). IsCount r.every × (0 < length r.cells))
     → IfSome o (λ r. IsCount r.0 × (0 < length r.1))
-    → SaysSuch adds (cond u (option_map (λ (r : Repeated). edit.ChangeRepeat id r.first r.every r.last r.cells) q)
+    → SaysSuch adds (cond u (option_map
+    (λ (r : Repeated). edit.ChangeRepeat id r.first r.every r.last r.cells) q)
     (option_map (λ r. edit.ChangeIntervention id r.0 r.1) o))
 changed-if adds id u q o h k = grind (arith)
 
@@ -159,8 +162,8 @@ change_named-says adds id rest = grind (arith, changed-says)
 change-says : (adds : Bool) (rest : List (List ℕ)) → SaysSuch adds (change_of rest)
 change-says adds rest = grind (arith, change_named-says)
 
-edit-if : (adds a b c d : Bool) (cells : Option (List CellSet)) (i : Option ℕ) (on change further : Option Edit)
-    → SaysSuch adds on → SaysSuch adds change → SaysSuch adds further
+edit-if : (adds a b c d : Bool) (cells : Option (List CellSet)) (i : Option ℕ)
+    (on change further : Option Edit) → SaysSuch adds on → SaysSuch adds change → SaysSuch adds further
     → SaysSuch adds (cond a (option_map edit.SetCells cells)
     (cond b on (cond c change (cond d (option_map edit.RemoveIntervention i) further))))
 edit-if adds a b c d cells i on change further h k l = grind (arith)
@@ -179,16 +182,18 @@ SaysCommand adds _ = ⊤
 
 looking-if : (adds a b c d : Bool) (i : Option ℕ) (rest : List (List ℕ)) (e : Option Edit) → SaysSuch adds e
     → SaysCommand adds (cond a (option_map command.Peek i) (cond b (alone (Some command.Poll) rest)
-    (cond c (alone (Some command.List) rest) (cond d (alone (Some command.Script) rest) (option_map command.Edit e)))))
+    (cond c (alone (Some command.List) rest) (cond d (alone (Some command.Script) rest)
+    (option_map command.Edit e)))))
 looking-if adds a b c d i rest e h = grind (arith)
 
 looking-says : (word : List ℕ) (rest : List (List ℕ))
     → SaysCommand (bytes_eq word (codes "branch")) (looking_by word rest)
 looking-says word rest = looking-if (bytes_eq word (codes "branch")) (bytes_eq word (codes "peek"))
-    (bytes_eq word (codes "poll")) (bytes_eq word (codes "list")) (bytes_eq word (codes "script")) (one_count rest) rest
-    (edit_by word rest) (edit-says word rest)
+    (bytes_eq word (codes "poll")) (bytes_eq word (codes "list")) (bytes_eq word (codes "script"))
+    (one_count rest) rest (edit_by word rest) (edit-says word rest)
 
-words-if : (adds a b c d : Bool) (i : Option ℕ) (rest : List (List ℕ)) (looks : Option Command) → SaysCommand adds looks
+words-if : (adds a b c d : Bool) (i : Option ℕ) (rest : List (List ℕ)) (looks : Option Command)
+    → SaysCommand adds looks
     → SaysCommand adds (cond a (alone (Some command.Settle) rest) (cond b (alone (Some command.Work) rest)
     (cond c (option_map command.Show i) (cond d (alone (Some command.Quit) rest) looks))))
 words-if adds a b c d i rest looks h = grind (arith)
@@ -196,8 +201,8 @@ words-if adds a b c d i rest looks h = grind (arith)
 words-say : (ws : List (List ℕ)) → SaysCommand (adds_branch ws) (command_of_words ws)
 words-say [] = tt
 words-say (word ∷ rest) = words-if (bytes_eq word (codes "branch")) (bytes_eq word (codes "settle"))
-    (bytes_eq word (codes "work")) (bytes_eq word (codes "show")) (bytes_eq word (codes "quit")) (one_count rest) rest
-    (looking_by word rest) (looking-says word rest)
+    (bytes_eq word (codes "work")) (bytes_eq word (codes "show")) (bytes_eq word (codes "quit"))
+    (one_count rest) rest (looking_by word rest) (looking-says word rest)
 
 -- what is asked is of these edits, if it is one
 abbrev pub Fits : (Asked → Type 0) → Ask → Type 0
@@ -325,11 +330,12 @@ limits-stay = record {
   starts = λ start. tt;
 }
 
-pub documents-sound : (script : List ℕ) (shortages : List Shortage)
+pub documents_sound : (script : List ℕ) (shortages : List Shortage)
     → AllByRecursion IsSound (documents_with script shortages)
-documents-sound script shortages =
+documents_sound script shortages =
     let lines = lines_until Ended script in
-    let fit = asks-fit HasStates Ended Between 1 lines (each-line (LineFits HasStates) (λ line a said. said.states) lines) in
+    let fit = asks-fit HasStates Ended Between 1 lines (each-line (LineFits HasStates)
+    (λ line a said. said.states) lines) in
     all_so KeepsLimits IsSound (documents_with script shortages) (λ p k. k.0)
     (documents-keep KeepsLimits HasStates limits-stay opening_session
     (asks Ended Between 1 lines) shortages fit opening-keeps)
@@ -352,31 +358,24 @@ alone-stays = record {
 }
 
 -- without branches all is in branch 0
-placed-alone : (b g : ℕ) → IsPlaced [] b g → b ≡ 0
-placed-alone b g placed = grind (arith, nat_tests)
+placed-alone : (branches : List Branch) (b g : ℕ) → branches ≡ [] → IsPlaced branches b g → b ≡ 0
+placed-alone branches b g none placed = grind (arith, nat_tests)
 
 alone-one_line : (p : Plan) → IsAlone p → HasOneLine p
-alone-one_line p k =
-    let sound =
-    subst (λ (bs : List Branch). AllByRecursion
-    (λ (i : Intervention). IsPlaced bs i.branch (first_of i.acts)) p.interventions) k.1
-    k.0.0.branches_sound.interventions_placed in
-    let marked =
-    subst (λ (bs : List Branch). AllByRecursion (λ (b : Bookmark). IsPlaced bs b.branch b.generation) p.bookmarks) k.1
-    k.0.0.branches_sound.bookmarks_placed in
-    record {
-      branches = k.1;
-      interventions = all_so (λ (i : Intervention). IsPlaced [] i.branch (first_of i.acts))
-          (λ (i : Intervention). i.branch ≡ 0) p.interventions (λ i. placed-alone i.branch (first_of i.acts)) sound;
-      bookmarks =
-          all_so (λ (b : Bookmark). IsPlaced [] b.branch b.generation) (λ (b : Bookmark). b.branch ≡ 0) p.bookmarks
-          (λ b. placed-alone b.branch b.generation) marked;
-      line = one_line p k.0.0 k.1;
-    }
+alone-one_line p k = record {
+  branches = k.1;
+  interventions = all_so (λ (i : Intervention). IsPlaced p.branches i.branch (first_of i.acts))
+      (λ (i : Intervention). i.branch ≡ 0) p.interventions
+      (λ i. placed-alone p.branches i.branch (first_of i.acts) k.1) k.0.0.branches_sound.interventions_placed;
+  bookmarks = all_so (λ (b : Bookmark). IsPlaced p.branches b.branch b.generation)
+      (λ (b : Bookmark). b.branch ≡ 0) p.bookmarks
+      (λ b. placed-alone p.branches b.branch b.generation k.1) k.0.0.branches_sound.bookmarks_placed;
+  line = one_line p k.0.0 k.1;
+}
 
-pub documents-one_line : (script : List ℕ) (shortages : List Shortage) → AddsNoBranch script
+pub documents_one_line : (script : List ℕ) (shortages : List Shortage) → AddsNoBranch script
     → AllByRecursion HasOneLine (documents_with script shortages)
-documents-one_line script shortages none =
+documents_one_line script shortages none =
     let lines = lines_until Ended script in
     let fit =
     asks-fit AsksAlone Ended Between 1 lines

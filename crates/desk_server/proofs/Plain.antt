@@ -114,14 +114,15 @@ first_caused : (shortages : List Shortage) → AllByRecursion IsCaused shortages
     × AllByRecursion IsCaused (later_shortages shortages)
 first_caused shortages h = grind (arith)
 
-pub afters-plain : (prompt : Bool) (s : Session) (asked : List Ask) (shortages : List Shortage)
+pub afters_plain : (prompt : Bool) (s : Session) (asked : List Ask) (shortages : List Shortage)
     → AllCausedOver prompt shortages → NoneShows prompt (afters s asked shortages)
     → afters s asked shortages ≡ afters s asked []
-afters-plain prompt s [] shortages caused h = refl
-afters-plain prompt s (ask ∷ rest) shortages caused h =
+afters_plain prompt s [] shortages caused h = refl
+afters_plain prompt s (ask ∷ rest) shortages caused h =
     let after = answer (first_shortage shortages) s ask in
     let next = session_after s ask after.plan in
     goes_on prompt s ask after (answer NoShortage s ask) rest (later_shortages shortages)
     (answer-plain prompt (first_shortage shortages) s ask (λ e. (first_caused shortages (caused e)).0)) h.0
-    (λ e. afters-plain prompt next rest (later_shortages shortages) (λ k. (first_caused shortages (caused k)).1)
+    (λ e. afters_plain prompt next rest (later_shortages shortages)
+    (λ k. (first_caused shortages (caused k)).1)
     (none_behind prompt after.ends (afters next rest (later_shortages shortages)) h.1 e))

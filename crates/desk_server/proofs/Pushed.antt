@@ -1,5 +1,5 @@
 -- A text that grows by the texts of the elements of a list, one after the other.
-use Rattle.std.proofs.Common.{◌≡◌, ◌∙◌, ℕ, zero, suc, ◌+◌, ◌-◌, ◌<◌, ◌≤◌, List, [], ◌∷◌, ◌++◌, length, drop, get_or, ap, sym, append_assoc, arith, refl, append-nil, Option, codes, decimal}
+use Rattle.std.proofs.Common.{◌≡◌, ◌∙◌, ℕ, zero, suc, ◌+◌, ◌-◌, ◌<◌, List, [], ◌∷◌, ◌++◌, length, drop, get_or, ap, sym, append_assoc, arith, refl, append-nil, Option, codes, decimal}
 use Rattle.std.specs.Prelude.{flat_map}
 use Rattle.std.specs.List.{range_with_len}
 use Rattle.std.proofs.lemmas.List.Concat.{flat_map-append}
@@ -13,23 +13,15 @@ use Rattle.schedule.specs.Plan.{Plan}
 use Rattle.document_replay.specs.Replay.{add_all, ids_between}
 use Rattle.document_replay.specs.Replay.{add_branch, add_bookmark, add_intervention, skip_branch, skip_bookmark, skip_intervention}
 use Rattle.desk_server.specs.Scripted.{edit_line, edit_lines, rule_lines, script_text, skip_lines, start_lines}
-use Rattle.desk_server.proofs.Parts.{next}
 
 module _ {A : Type 0} (text : A → List ℕ) where
   -- what is there and the texts of those that are left are what it is to become
   abbrev pub IsGrowing : List ℕ → List ℕ → List A → List A → Type 0
   IsGrowing old now left xs = now ++ flat_map text left ≡ old ++ flat_map text xs
 
-  pub grown-more : (old now new : List ℕ) (xs : List A) (k : ℕ) (d : A) → k < length xs
-      → new ≡ now ++ text (get_or xs k d) → IsGrowing old now (drop k xs) xs → IsGrowing old new (drop (k + 1) xs) xs
-  grown-more old now new xs k d low is grows = grind (arith, append_assoc, next)
-
 -- the ids from one on, below another
 pub range-more : (a b : ℕ) → a < b → range_with_len a (b - a) ≡ a ∷ range_with_len (a + 1) (b - (a + 1))
 range-more a b low = grind (arith)
-
-range-none : (a b : ℕ) → b ≤ a → range_with_len a (b - a) ≡ []
-range-none a b high = grind (arith)
 
 -- the text of one more of them was added
 pub pushed-more : (text : ℕ → List ℕ) (old now new : List ℕ) (a b : ℕ) (ids : List ℕ) → a < b
@@ -38,12 +30,6 @@ pub pushed-more : (text : ℕ → List ℕ) (old now new : List ℕ) (a b : ℕ)
 pushed-more text old now new a b ids low is grows = grind (arith, append_assoc, range-more)
 
 -- those that are left are those from the next one on, also where there is no number behind the last
-pub range-first : (first last id : ℕ) → first ≡ last + 1 → range_with_len first (id - first) ≡ ids_between last id
-range-first first last id e = grind (arith)
-
-pub range-past : (first last id : ℕ) → id ≤ first → id ≤ last + 1 → range_with_len first (id - first) ≡ ids_between last id
-range-past first last id e f = grind (arith, range-none)
-
 module _ {X : Type 0} (id : X → ℕ) (skip : ℕ → List Asked) (add : X → Asked) where
   -- the edits that add those from the k-th on
   left-suc : (last : ℕ) (xs : List X) (k : ℕ) (d : X) → k < length xs

@@ -58,7 +58,7 @@ use Rattle.desk_server.specs.Answer.{opening_session, session_after, started, un
 use Rattle.desk_server.specs.Script.{Between, InText, afters, asks}
 use Rattle.desk_server.specs.Anew.{CanBeWritten, HasText, IsAccepted, IsWritten, MakesAnew, ScriptsMakeAnew}
 use Rattle.desk_server.specs.Anew.{last_plan}
-use Rattle.desk_server.proofs.Anew.{edit-lines}
+use Rattle.desk_server.proofs.Anew.{lines_read_back}
 use Rattle.desk_server.proofs.Written.{rows-written, text-named}
 use Rattle.desk_server.proofs.Hearing.{asks-text, asks-text_command}
 
@@ -83,7 +83,7 @@ record Asks (edits : List Asked) (n : ℕ) : Type 0 where
 edits-asked : (edits : List Asked) (n : ℕ) → AllByRecursion IsWritten edits → Asks edits n
 edits-asked [] n h = record { asked = []; are = tt; law = refl }
 edits-asked (x ∷ edits) n h =
-    let first = edit-lines x h.0 in
+    let first = lines_read_back x h.0 in
     let rest = edits-asked edits (n + 1) h.1 in record {
       asked = Obey (command.Edit first.edit) ∷ rest.asked;
       are = (record { edit = first.edit; of = first.is; is = refl }, rest.are);
@@ -237,12 +237,10 @@ rows-unended front (row ∷ rows) h lines = (
   rows-unended (front ++ node_of row ∷ []) rows h.1 lines.1,
 )
 
-all_single : (ls : List (List ℕ)) → AllByRecursion IsLine ls → AllByRecursion NoLineFeed ls
-all_single ls h = all_so IsLine NoLineFeed ls (λ l k. printed-one l k.printed) h
-
 mark-line : (letter : ℕ) (bs : List ℕ) → IsVisible letter → 0 < length bs → AllByRecursion IsVisible bs
     → IsLine (35 ∷ letter ∷ 32 ∷ bs)
-mark-line letter bs h some visible = grind (arith, line-between, visible-printed, all_so, ends-append, ends-visible)
+mark-line letter bs h some visible = grind
+    (arith, line-between, visible-printed, all_so, ends-append, ends-visible)
 
 first-line : IsLine (codes "[M2] (experiment desk)")
 first-line = record { printed = printed-tested (codes "[M2] (experiment desk)") refl; trimmed = refl }
@@ -257,7 +255,8 @@ macrocell-lines name rows h valid few =
     let counted = mark-line 71 (decimal 0) (omega arith, omega arith) number digits in
     let low = are.few in
     let lines = node-lines [] (nodes_of rows) (omega arith) are.each in record {
-      whole = all_single (written_lines name 0 (nodes_of rows)) (first-line, (named, (counted, lines)));
+      whole = all_so IsLine NoLineFeed (written_lines name 0 (nodes_of rows))
+          (λ l k. printed-one l k.printed) (first-line, (named, (counted, lines)));
       inside = (
         unended 91 _ first-line refl (λ e. omega (arith, e)),
         (
@@ -347,7 +346,7 @@ anew p (Some text) sound made can are has =
     (session_after next (Take format.Macrocell mc) (changed next.plan (ReplaceStart p.start)).plan)
     (remade k p) start.1.are lead.1.1)))
 
-pub scripts-anew : ScriptsMakeAnew
-scripts-anew p rule sound made can has =
+pub scripts_anew : ScriptsMakeAnew
+scripts_anew p rule sound made can has =
     let valid = (squares-rows_of p.start (margin p sound) (states p sound)).canonical.valid in
     anew p rule sound made can (macrocell-lines (name_of p.rule) (rows_of p.start) (text-named p rule has) valid can.start) has

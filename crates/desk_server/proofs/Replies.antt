@@ -1,5 +1,5 @@
 -- What the desk's answers are by the definition of the replies.
-use Rattle.std.proofs.Common.{◌≡◌, ◌≢◌, ◌⊎◌, inl, inr, ℕ, List, Result, Err, ◌≤◌, Option, Some, None, IfNone, length, Bool, true, false, cond, not, ◌==◌, refl, sym, ap, ◌∙◌, subst, arith}
+use Rattle.std.proofs.Common.{◌≡◌, ◌≢◌, ◌⊎◌, inl, inr, ℕ, List, Result, Err, ◌≤◌, Option, Some, None, IfNone, length, Bool, true, false, cond, not, ◌==◌, subst, arith}
 use Rattle.std.specs.Prelude.{IsSome}
 use Rattle.std.proofs.lemmas.Bool.{cond-true}
 use Rattle.std.proofs.lemmas.Bool.Decides.{nat_tests}
@@ -42,29 +42,22 @@ pub gives-refused : {A E : Type 0} (p : Plan) (new : BookState) (r : Reply) (tol
     → told none ≡ of_edit NoMemory → new.plan ≡ p → (fault ≡ none) ⊎ (read ≡ Err fault)
     → ((k : BookState) → reply_text k r ≡ refused_text (told fault)) → ends r ≡ false
     → GivesOrLacks p (unless_fault p told done read) r new
-gives-refused p new r told done fault none read law same (inl memory) is goes = (
-  Memory,
-  λ _. tt,
-  ap (λ f. only p (refused_text f)) (sym law ∙ sym (ap told memory))
-      ∙ gives-only p new r (refused_text (told fault)) same (is new) goes,
-)
-gives-refused p new r told done fault none read law same (inr refused) is goes = (
-  NoShortage,
-  λ _. tt,
-  ap (unless_fault p told done) refused ∙ gives-only p new r (refused_text (told fault)) same
-      (is new) goes,
-)
+gives-refused p new r told done fault none read law same (inl memory) is goes =
+    (Memory, λ _. tt, grind (arith, gives-only, is new))
+gives-refused p new r told done fault none read law same (inr refused) is goes =
+    (NoShortage, λ _. tt, grind (arith, gives-only, is new))
 
 -- settling that left bookmarks pending
 pub gives-unsettled : (prompt : Bool) (p : Plan) (new : BookState) (n : ℕ) (cause : Option Cause) → new.plan ≡ p
     → (prompt ≡ true → IfNone cause (pending_of new ≡ 0)) → n ≡ pending_of new → n ≢ 0 → n ≤ length new.plan.bookmarks
     → GivesBy prompt (λ short. settled short p) (reply.Unsettled n cause) new
-gives-unsettled prompt p new n cause same caused is some few = (Unsettled n cause, grind (arith), grind (arith, nat_tests))
+gives-unsettled prompt p new n cause same caused is some few =
+    (Unsettled n cause, grind (arith), grind (arith, nat_tests))
 
 -- a poll
-pub gives-polled : (prompt : Bool) (p : Plan) (new : BookState) (n : ℕ) (cause : Option Cause) → new.plan ≡ p
+pub gives_polled : (prompt : Bool) (p : Plan) (new : BookState) (n : ℕ) (cause : Option Cause) → new.plan ≡ p
     → n ≤ length new.plan.bookmarks → GivesBy prompt (λ short. polled short p) (reply.Polled n cause) new
-gives-polled prompt p new n cause same few = (Still n cause, λ _. tt, grind (arith, nat_tests))
+gives_polled prompt p new n cause same few = (Still n cause, λ _. tt, grind (arith, nat_tests))
 
 some_of : (o : Option Bookmark) → IsSome o → (b : Bookmark) × (o ≡ Some b)
 some_of o h = grind (arith)
@@ -78,7 +71,8 @@ pending-shown known id h = grind (arith, some_of)
 pub gives-shown : (prompt : Bool) (p : Plan) (new : BookState) (id : ℕ) (s : Shown) → new.plan ≡ p → Shows new id s
     → GivesBy prompt (λ short. shown_by short p id (bookmark_in p.bookmarks id)) (reply.Shown id) new
 gives-shown prompt p new id s same shows =
-    subst (λ q. GivesBy prompt (λ short. shown_by short q id (bookmark_in q.bookmarks id)) (reply.Shown id) new) same (now s shows)
+    subst (λ q. GivesBy prompt (λ short. shown_by short q id (bookmark_in q.bookmarks id))
+    (reply.Shown id) new) same (now s shows)
   where
     now : (s : Shown) → Shows new id s
         → GivesBy prompt (λ short. shown_by short new.plan id (bookmark_in new.plan.bookmarks id)) (reply.Shown id) new
@@ -95,11 +89,7 @@ pub serves-memory : (prompt : Bool) (asked : Request) (r : Reply) (d : BookState
     → ((ask : Ask) → AsksFor asked ask → CanLackMemory ask) → reply_text d r ≡ refused_text (of_edit NoMemory)
     → ends r ≡ false → Serves prompt asked r (session d rule) d
 serves-memory prompt asked r d rule can is goes =
-    λ ask asks. (
-      Memory,
-      λ _. tt,
-      can ask asks (session d rule) ∙ gives-only d.plan d r (refused_text (of_edit NoMemory)) refl is goes,
-    )
+    λ ask asks. (Memory, λ _. tt, grind (arith, gives-only, can ask asks (session d rule)))
 
 -- what is out of it already can
 pub none-lacks : (asked : Request) → asked ≡ request.NoMemory → (ask : Ask) → AsksFor asked ask → CanLackMemory ask
@@ -113,23 +103,19 @@ plainly_refused s fault = grind (arith)
 pub serves-refused : (prompt : Bool) (asked : Request) (fault : ScriptFault) (r : Reply) (d : BookState)
     (rule : Option (List ℕ)) → asked ≡ request.Refuse fault → reply_text d r ≡ refused_text (of_script fault)
     → ends r ≡ false → Serves prompt asked r (session d rule) d
-serves-refused prompt asked fault r d rule e is goes = λ ask asks.
-    let one : ask ≡ Refuse fault = subst (λ q. AsksFor q ask) e asks in (
-      NoShortage,
-      λ _. tt,
-      ap (answer NoShortage (session d rule)) one ∙ plainly_refused (session d rule) fault
-          ∙ gives-only d.plan d r (refused_text (of_script fault)) refl is goes,
-    )
+serves-refused prompt asked fault r d rule e is goes =
+    λ ask asks. (NoShortage, λ _. tt, grind (arith, gives-only, plainly_refused))
 
 -- the script goes on after a poll
 pub polled_goes_on : (p q : PostView) (old new : BookState) (r : Reply) → PollsBy p q old new r → ends r ≡ false
 polled_goes_on p q old new r h = grind (arith)
 
 -- a text was taken, unless memory was short for it
-pub serves-taken : (prompt : Bool) (asked : Request) (format : Format) (text : Text) (r : Reply) (old new : BookState)
+pub serves_taken : (prompt : Bool) (asked : Request) (format : Format) (text : Text) (r : Reply)
+    (old new : BookState)
     (rule : Option (List ℕ)) → asked ≡ request.Take format text → TakesText format text r old new
     → Serves prompt asked r (session old rule) new
-serves-taken prompt asked format text r old new rule e takes = grind (arith)
+serves_taken prompt asked format text r old new rule e takes = grind (arith)
 
 -- its bytes are kept if they are a rule's that was taken, and then there are some
 kept-rule : (b is_taken : Bool) (text : Option (List ℕ)) (bytes : List ℕ) (rule : Option (List ℕ))
@@ -146,15 +132,16 @@ kept-taken format text old new rule kept is_taken is none keeps = grind (arith, 
 pub rule-same : (s : Session) (ask : Ask) → rule_text_after s ask s.plan ≡ s.rule_text
 rule-same s ask = grind (arith, cond-true, nat_tests)
 
-pub keeps-same : (asked : Request) (d : BookState) (rule : Option (List ℕ)) → KeepsText asked (session d rule) d rule
-keeps-same asked d rule = grind (arith, rule-same)
+pub keeps_same : (asked : Request) (d : BookState) (rule : Option (List ℕ))
+    → KeepsText asked (session d rule) d rule
+keeps_same asked d rule = grind (arith, rule-same)
 
 -- and with a command
-pub keeps-obeyed : (asked : Request) (command : Command) (s : Session) (d : BookState) → asked ≡ request.Obey command
-    → KeepsText asked s d s.rule_text
-keeps-obeyed asked command s d e = grind (arith)
+pub keeps_obeyed : (asked : Request) (command : Command) (s : Session) (d : BookState)
+    → asked ≡ request.Obey command → KeepsText asked s d s.rule_text
+keeps_obeyed asked command s d e = grind (arith)
 
-pub keeps-taken : (asked : Request) (format : Format) (text : Text) (s : Session) (d : BookState)
+pub keeps_taken : (asked : Request) (format : Format) (text : Text) (s : Session) (d : BookState)
     (rule : Option (List ℕ)) → asked ≡ request.Take format text → KeepsTaken format text s d rule
     → KeepsText asked s d rule
-keeps-taken asked format text s d rule e keeps = grind (arith)
+keeps_taken asked format text s d rule e keeps = grind (arith)

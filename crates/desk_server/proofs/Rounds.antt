@@ -91,18 +91,6 @@ replies_told p (ask ∷ rest) shortages =
     ap (λ v. after.told ++ v) (told_unless after.ends rest later (replies_told next rest (later_shortages shortages)))
 
 -- one answer alone
-wrote_one : (before after : Option (List ℕ)) (ask : Ask) (k : BookState) (r : Reply) → Appends before after (reply_text k r)
-    → Appends before after (told_to (one_of ask k r ∷ []))
-wrote_one before after ask k r w = grind (arith, append-nil)
-
-noted_one : (noted : List Answered → Type 0) (ask : Ask) (k : BookState) (r : Reply) → r ≢ reply.Bye
-    → noted (one_of ask k r ∷ []) → noted (but_bye (one_of ask k r ∷ []))
-noted_one noted ask k r other h = grind (arith, ends-other)
-
-noted_bye : (noted : List Answered → Type 0) (ask : Ask) (k : BookState) (r : Reply) → r ≡ reply.Bye → noted []
-    → noted (but_bye (one_of ask k r ∷ []))
-noted_bye noted ask k r bye h = grind (arith)
-
 -- nothing was asked
 asked_nothing : (heard : Option Request) (asked : List Ask) → heard ≡ None → AsksIfAny heard asked → asked ≡ []
 asked_nothing heard asked e is = grind (arith)
@@ -135,7 +123,8 @@ module _ (noted : List Answered → Type 0) (prompt : Bool) (old new : Ahead) (t
     given = [];
     wrote = Appends-nil told;
     notes = notes;
-    law = λ rest x. ap (λ v. answered k v []) (silent Ended rest (follows_nothing last new.bytes rest h.at_end x)
+    law = λ rest x. ap (λ v. answered k v []) (silent Ended rest
+        (follows_nothing last new.bytes rest h.at_end x)
         ∙ ap (λ v. asks Ended Between m (lines_until Ended v)) (at_end_nil new.bytes rest (h.at_end e) x));
   }
 
@@ -145,10 +134,8 @@ pub served : (prompt : Bool) (heard : Option Request) (request : Request) (asked
     → Serves prompt request r j k → KeepsText request j k t → Served prompt request r asked j k t
 served prompt heard request asked j k t r e is gives keeps = grind (arith)
 
-nothing_more : (v : Bool) (a : Answered) → a ∷ cond v [] [] ≡ a ∷ []
-nothing_more v a = grind (arith)
-
-module _ (prompt : Bool) (old new : Ahead) (heard : Option Request) (last : Bool) (j : Session) (k : BookState)
+module _ (prompt : Bool) (old new : Ahead) (heard : Option Request) (last : Bool) (j : Session)
+    (k : BookState)
     (t : Option (List ℕ)) (n m : ℕ) (q : Request) (r : Reply) (h : Hears old new Between heard last n m)
     (s : Served prompt q r h.asked j k t) where
   -- what is answered behind this reply, unless it ends the script
@@ -161,8 +148,8 @@ module _ (prompt : Bool) (old new : Ahead) (heard : Option Request) (last : Bool
       ≡ one_of s.0 k r ∷ cond (ends r) [] (behind stop more later)
   afters_from stop more later f = grind (arith, after_is, h.law)
 
-  pub goes_on_told : (noted : List Answered → Type 0) (before after : Option (List ℕ)) → last ≡ false → r ≢ reply.Bye
-      → noted (one_of s.0 k r ∷ []) → Appends before after (reply_text k r)
+  pub goes_on_told : (noted : List Answered → Type 0) (before after : Option (List ℕ)) → last ≡ false
+      → r ≢ reply.Bye → noted (one_of s.0 k r ∷ []) → Appends before after (reply_text k r)
       → Answers noted prompt old new before after j (session k t) n m
   goes_on_told noted before after e b notes w = record {
     bytes = h.bytes;
@@ -170,15 +157,15 @@ module _ (prompt : Bool) (old new : Ahead) (heard : Option Request) (last : Bool
     caused = λ e. (s.2.1 e, tt);
     given = one_of s.0 k r ∷ [];
     taken = h.taken;
-    wrote = wrote_one before after s.0 k r w;
-    notes = noted_one noted s.0 k r b notes;
+    wrote = grind (arith, append-nil, w);
+    notes = grind (arith, ends-other);
     law = λ stop more later. afters_from stop more later (follows-any last stop more e)
         ∙ ap (λ v. one_of s.0 k r ∷ cond v [] (behind stop more later)) (ends-other r b);
   }
 
   -- the last answer, behind which no command is answered
-  done_told : (noted : List Answered → Type 0) (before after : Option (List ℕ)) → noted (but_bye (one_of s.0 k r ∷ []))
-      → Appends before after (reply_text k r)
+  done_told : (noted : List Answered → Type 0) (before after : Option (List ℕ))
+      → noted (but_bye (one_of s.0 k r ∷ [])) → Appends before after (reply_text k r)
       → ((rest : List ℕ) → new.bytes ≡ Some rest
       → one_of s.0 k r ∷ cond (ends r) [] (behind Ended rest []) ≡ one_of s.0 k r ∷ [])
       → Finishes noted prompt old new before after j n
@@ -188,21 +175,21 @@ module _ (prompt : Bool) (old new : Ahead) (heard : Option Request) (last : Bool
     caused = λ e. (s.2.1 e, tt);
     taken = h.taken;
     given = one_of s.0 k r ∷ [];
-    wrote = wrote_one before after s.0 k r w;
+    wrote = grind (arith, append-nil, w);
     notes = notes;
     law = λ rest x. afters_from Ended rest [] (follows_nothing last new.bytes rest h.at_end x) ∙ ended rest x;
   }
 
-  pub done_last : (noted : List Answered → Type 0) (before after : Option (List ℕ)) → r ≢ reply.Bye → last ≡ true
-      → noted (one_of s.0 k r ∷ []) → Appends before after (reply_text k r)
+  pub done_last : (noted : List Answered → Type 0) (before after : Option (List ℕ)) → r ≢ reply.Bye
+      → last ≡ true → noted (one_of s.0 k r ∷ []) → Appends before after (reply_text k r)
       → Finishes noted prompt old new before after j n
-  done_last noted before after b e notes w = done_told noted before after (noted_one noted s.0 k r b notes) w
-      (λ rest x. ap (λ v. one_of s.0 k r ∷ cond (ends r) [] (behind Ended v [])) (at_end_nil new.bytes rest (h.at_end e) x)
-      ∙ nothing_more (ends r) (one_of s.0 k r))
+  done_last noted before after b e notes w = done_told noted before after (grind (arith, ends-other)) w
+      (λ rest x. ap (λ v. one_of s.0 k r ∷ cond (ends r) [] (behind Ended v []))
+      (at_end_nil new.bytes rest (h.at_end e) x) ∙ grind (arith))
 
   pub done_bye : (noted : List Answered → Type 0) (before after : Option (List ℕ)) → noted [] → r ≡ reply.Bye
       → Appends before after (reply_text k r) → Finishes noted prompt old new before after j n
-  done_bye noted before after notes b w = done_told noted before after (noted_bye noted s.0 k r b notes) w
+  done_bye noted before after notes b w = done_told noted before after (grind (arith)) w
       (λ rest _. ap (λ v. one_of s.0 k r ∷ cond (ends v) [] (behind Ended rest [])) b)
 
   pub stops_telling : (before after : Option (List ℕ)) → AppendsFront before after (reply_text k r)
@@ -218,25 +205,23 @@ module _ (prompt : Bool) (old new : Ahead) (heard : Option Request) (last : Bool
         (front_first before after (reply_text k r) (told_to (cond (ends r) [] (behind Ended rest []))) w);
   }
 
-wrote_both : (x y z : Option (List ℕ)) (xs ys : List Answered) → Appends x y (told_to xs) → Appends y z (told_to ys)
-    → Appends x z (told_to (xs ++ ys))
-wrote_both x y z xs ys f g = grind (arith, Appends-trans, texts-append)
-
 notes_both : (first next both : List Answered → Type 0) → ((ps qs : List Answered) → first ps → next qs → both (ps ++ qs))
     → (xs ys : List Answered) → first (but_bye xs) → next (but_bye ys) → both (but_bye (xs ++ ys))
 notes_both first next both join xs ys f g = grind (arith, but_bye-append)
 
 -- what was answered, and then what was answered next
-module _ (first : List Answered → Type 0) (prompt : Bool) (a b c : Ahead) (x y z : Option (List ℕ)) (p q : Session)
-    (n m : ℕ) (f : Answers first prompt a b x y p q n m) where
+module _ (first : List Answered → Type 0) (prompt : Bool) (a b c : Ahead) (x y z : Option (List ℕ))
+    (p q : Session) (n m : ℕ) (f : Answers first prompt a b x y p q n m) where
   -- the answers to more bytes, for more shortages
   go_on : (bytes : List ℕ) (shortages : List Shortage) (stop : End) (more : List ℕ) (later : List Shortage)
-      → answered p (asks stop Between n (lines_until stop ((f.bytes ++ bytes) ++ more))) ((f.shortages ++ shortages) ++ later)
+      → answered p (asks stop Between n (lines_until stop ((f.bytes ++ bytes) ++ more)))
+      ((f.shortages ++ shortages) ++ later)
       ≡ f.given ++ answered q (asks stop Between m (lines_until stop (bytes ++ more))) (shortages ++ later)
   go_on bytes shortages stop more later = grind (arith, append_assoc, f.law)
 
   end_on : (bytes : List ℕ) (shortages : List Shortage) (stop : End) (more : List ℕ)
-      → answered p (asks stop Between n (lines_until stop ((f.bytes ++ bytes) ++ more))) (f.shortages ++ shortages)
+      → answered p (asks stop Between n (lines_until stop ((f.bytes ++ bytes) ++ more)))
+      (f.shortages ++ shortages)
       ≡ f.given ++ answered q (asks stop Between m (lines_until stop (bytes ++ more))) shortages
   end_on bytes shortages stop more = grind (arith, append_assoc, f.law)
 
@@ -249,9 +234,10 @@ module _ (first : List Answered → Type 0) (prompt : Bool) (a b c : Ahead) (x y
     caused = λ e. all_append IsCaused f.shortages g.shortages (f.caused e) (g.caused e);
     given = f.given ++ g.given;
     taken = takes_then a b c f.bytes g.bytes f.taken g.taken;
-    wrote = wrote_both x y z f.given g.given f.wrote g.wrote;
+    wrote = grind (arith, Appends-trans, texts-append, f.wrote, g.wrote);
     notes = notes_both first next both join f.given g.given f.notes g.notes;
-    law = λ stop more later. go_on g.bytes g.shortages stop more later ∙ ap (λ v. f.given ++ v) (g.law stop more later)
+    law = λ stop more later. go_on g.bytes g.shortages stop more later
+        ∙ ap (λ v. f.given ++ v) (g.law stop more later)
         ∙ sym (append_assoc f.given g.given (answered s (asks stop Between k (lines_until stop more)) later));
   }
 
@@ -264,7 +250,7 @@ module _ (first : List Answered → Type 0) (prompt : Bool) (a b c : Ahead) (x y
     caused = λ e. all_append IsCaused f.shortages g.shortages (f.caused e) (g.caused e);
     taken = takes_then a b c f.bytes g.bytes f.taken g.taken;
     given = f.given ++ g.given;
-    wrote = wrote_both x y z f.given g.given f.wrote g.wrote;
+    wrote = grind (arith, Appends-trans, texts-append, f.wrote, g.wrote);
     notes = notes_both first next both join f.given g.given f.notes g.notes;
     law = λ rest e. end_on g.bytes g.shortages Ended rest ∙ ap (λ v. f.given ++ v) (g.law rest e);
   }
@@ -294,7 +280,8 @@ answers_breaks noted prompt a b c x y q m f g = record {
   taken = takes_then a b c f.bytes g.bytes f.taken g.taken;
   wrote = subst (Appends x y) (sym (replies_told opening_session
       (asks Broken Between 1 (lines_until Broken (f.bytes ++ g.bytes))) (f.shortages ++ [])
-      ∙ ap told_to (f.law Broken g.bytes [] ∙ ap (λ v. f.given ++ answered q v []) g.law ∙ append-nil f.given))) f.wrote;
+      ∙ ap told_to (f.law Broken g.bytes [] ∙ ap (λ v. f.given ++ answered q v []) g.law
+      ∙ append-nil f.given))) f.wrote;
 }
 
 -- at the beginning
@@ -338,7 +325,11 @@ completed notes missed p q first last old new r s w x opens f works =
     (subst (λ v. Appends w.contents x.contents (told_to v)) (sym (f.law rest e)) f.wrote) in (
       record {
         answered = if_read (AnswersAll p.is_prompt w.contents x.contents) r.ahead.bytes s.ahead.bytes f.bytes
-            f.taken.consumed (λ rest e. record { shortages = f.shortages; caused = f.caused; wrote = wrote rest e });
+            f.taken.consumed (λ rest e. record {
+              shortages = f.shortages;
+              caused = f.caused;
+              wrote = wrote rest e;
+            });
         works = works;
       },
       if_read (NotesScript notes missed p q w.contents x.contents old new) r.ahead.bytes s.ahead.bytes f.bytes
@@ -417,6 +408,12 @@ begun_watched notes p q first k old new last a b c x y heard is_last n m request
 -- where nothing was read
 pub none_begun : {V : Type 0} (notes : V → BookState → V → Type 0) (p : PostView) (first : BookState) (v : V)
     (bytes : Option (List ℕ)) → first.plan ≡ opening 0 → IfSome bytes (NotesFront notes p p v v)
-none_begun notes p first v bytes opens = front_noted notes p p first v v (moment 0 p first v) bytes bytes [] [] []
+none_begun notes p first v bytes opens = front_noted notes p p first v v (moment 0 p first v) bytes bytes []
+    [] []
     opens (λ _. tt) (Consumes-nil bytes) refl
-    (λ rest e. (answered_with rest [], refl, unwatched_next notes (moment 0 p first v) (answered_with rest [])))
+    (λ rest e. (
+      answered_with rest [],
+      refl,
+      unwatched_next notes (moment 0 p first v)
+          (answered_with rest []),
+    ))

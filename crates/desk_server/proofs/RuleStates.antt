@@ -78,17 +78,15 @@ table_of-few lines table h =
     let said = then-ok (lines_of lines) within_limits table h in
     let t : table_values.Table = said.0 in
     let read = lines-read lines t said.1 in
-    let within = passed (nat_lt transition_limit (length (expanded t))) (is_quiescent t) t table said.2 in grind (arith)
+    let within = passed (nat_lt transition_limit (length (expanded t)))
+    (is_quiescent t) t table said.2 in grind (arith)
 
 kind_by-few : (k : SectionKind) (s : Section) (kind : Kind) → kind_by k s ≡ Ok kind → AreFew (states_of_kind kind)
 kind_by-few section.Table s kind h =
     let table = then-ok (table_of s.lines) (λ t. Ok (Table t)) kind h in
-    let is : Table table.0 ≡ kind = cc in
-    subst (λ k. AreFew (states_of_kind k)) is (table_of-few s.lines table.0 table.1)
+    grind (arith, table_of-few s.lines table.0 table.1)
 kind_by-few section.Tree s kind h =
-    let tree = then-ok (tree_of s) (λ t. Ok (TreeKind t)) kind h in
-    let is : TreeKind tree.0 ≡ kind = cc in
-    subst (λ k. AreFew (states_of_kind k)) is (tree_of-few s tree.0 tree.1)
+    let tree = then-ok (tree_of s) (λ t. Ok (TreeKind t)) kind h in grind (arith, tree_of-few s tree.0 tree.1)
 
 pub rule_of-few : (bytes : List ℕ) (rule : NamedRule) → rule_of bytes ≡ Ok rule → AreFew (states_of rule)
 rule_of-few bytes rule h =

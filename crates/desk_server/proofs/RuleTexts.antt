@@ -88,9 +88,7 @@ text-more : (text : List ℕ) (line : Line) → IsText text → IsFull line → 
 text-more text line h full inside =
     let ls : List (List ℕ) = h.lines ++ full.bytes ∷ [] in record {
       lines = ls;
-      is = flat_map-append (λ (l : List ℕ). l ++ 10 ∷ []) h.lines (full.bytes ∷ [])
-          ∙ ap (λ v. text_of_lines h.lines ++ v) (append-nil (full.bytes ++ 10 ∷ []))
-          ∙ ap (λ v. v ++ (full.bytes ++ 10 ∷ [])) h.is ∙ ap (λ (l : Line). text ++ l.raw) (sym full.is);
+      is = grind (arith, flat_map-append, append-nil, h.is, full.is);
       are = record {
         whole = all_append NoLineFeed h.lines (full.bytes ∷ []) h.are.whole (full.whole, tt);
         inside = all_append (λ l. is_end (full_line l).says ≡ false) h.lines (full.bytes ∷ []) h.are.inside
@@ -178,7 +176,8 @@ next-text short s (Take format.Rule text) h is has =
     (λ (d : Changed). d.edited.id) (refusal s.plan (ReplaceRule rule)) now (λ free. taken-text s text rule is means)))
 next-text short s (Take format.Rle text) h is has =
     text-same s.plan (answer short s (Take format.Rle text)).plan s.rule_text
-    (short-rule short s.plan (taken s.plan format.Rle text) (loaded-rule s.plan of_pattern (pattern_of text))) has
+    (short-rule short s.plan (taken s.plan format.Rle text) (loaded-rule s.plan of_pattern
+    (pattern_of text))) has
 next-text short s (Take format.Macrocell text) h is has =
     text-same s.plan (answer short s (Take format.Macrocell text)).plan s.rule_text
     (short-rule short s.plan (taken s.plan format.Macrocell text)
@@ -189,30 +188,34 @@ next-text short s (Refuse (BadCommand line)) h is has =
 next-text short s (Refuse (NoEnd line)) h is has = has
 
 -- what each answer keeps of a session holds in each session
-pub sessions-keep : (K : Session → Type 0) (fits : Ask → Type 0) → ((short : Shortage) (s : Session) (ask : Ask) → fits ask
-    → K s → K (session_after s ask (answer short s ask).plan)) → (s : Session) (asked : List Ask) (shortages : List Shortage)
+pub sessions-keep : (K : Session → Type 0) (fits : Ask → Type 0)
+    → ((short : Shortage) (s : Session) (ask : Ask) → fits ask
+    → K s → K (session_after s ask (answer short s ask).plan)) → (s : Session) (asked : List Ask)
+    (shortages : List Shortage)
     → AllByRecursion fits asked → K s → AllByRecursion K (sessions s asked shortages)
 sessions-keep K fits step s [] shortages fit k = (k, tt)
 sessions-keep K fits step s (ask ∷ rest) shortages fit k =
     let after = answer (first_shortage shortages) s ask in
     let next = session_after s ask after.plan in (
       k,
-      unless_ends after.ends (sessions next rest (later_shortages shortages)) (sessions-keep K fits step next rest
+      unless_ends after.ends (sessions next rest (later_shortages shortages))
+          (sessions-keep K fits step next rest
           (later_shortages shortages) fit.1 (step (first_shortage shortages) s ask fit.0 k)),
     )
   where
-    unless_ends : (v : Bool) (later : List Session) → AllByRecursion K later → AllByRecursion K (cond v [] later)
+    unless_ends : (v : Bool) (later : List Session) → AllByRecursion K later
+        → AllByRecursion K (cond v [] later)
     unless_ends v later h = grind (arith)
 
-pub kept-texts : KeptTextsAreRules
-kept-texts script shortages =
+pub kept_texts : KeptTextsAreRules
+kept_texts script shortages =
     let lines = lines_until Ended script in
     let asked = asks Ended Between 1 lines in
     sessions-keep (λ (t : Session). HasText t.plan t.rule_text) (λ ask. Fits TakesNoRule ask × AsksText ask)
     (λ short s ask fits has. next-text short s ask fits.0 fits.1 has) opening_session asked shortages
     (all_both (Fits TakesNoRule) AsksText asked
-    (asks-fit TakesNoRule Ended Between 1 lines (each-line (LineFits TakesNoRule) (λ line a said. said.rule) lines))
-    (asks-texts Between 1 lines tt (from-full [] script tt))) refl
+    (asks-fit TakesNoRule Ended Between 1 lines (each-line (LineFits TakesNoRule)
+    (λ line a said. said.rule) lines)) (asks-texts Between 1 lines tt (from-full [] script tt))) refl
   where
     all_both : (F G : Ask → Type 0) (asked : List Ask) → AllByRecursion F asked → AllByRecursion G asked
         → AllByRecursion (λ ask. F ask × G ask) asked

@@ -1,5 +1,5 @@
 -- The rows of a document can be written.
-use Rattle.std.proofs.Common.{◌≡◌, ℕ, zero, suc, ◌+◌, ◌-◌, ◌<◌, ◌≤◌, ◌^◌, ◌*◌, ◌==◌, ◌||◌, ◌&&◌, nat_lt, nat_le}
+use Rattle.std.proofs.Common.{◌≡◌, ℕ, zero, suc, ◌+◌, ◌-◌, ◌<◌, ◌≤◌, ◌^◌, ◌*◌, ◌==◌, ◌&&◌, nat_lt, nat_le}
 use Rattle.std.proofs.Common.{ℤ, pos, List, [], ◌∷◌, ◌++◌, length, Bool, true, cond, refl, sym, subst, arith}
 use Rattle.std.proofs.Common.{codes, Option, Some, None, Ok, FitsSigned, w64}
 use Rattle.std.specs.Prelude.{IsTrue, flat_map}
@@ -69,11 +69,7 @@ module _ {X : Type 0} (id : X → ℕ) (skip : ℕ → List Asked) (add : X → 
 listed : (branches : List Branch) (b last : ℕ) → AllByRecursion (λ (x : Branch). x.id ≤ last) branches
     → has_id branch_id branches b ≡ true → b ≤ last
 listed [] b last given there = absurd (cc there)
-listed (x ∷ xs) b last given there = either (x.id == b) refl (listed xs b last given.1) there
-  where
-    either : (v : Bool) → (x.id == b) ≡ v → (has_id branch_id xs b ≡ true → b ≤ last)
-        → (v || has_id branch_id xs b) ≡ true → b ≤ last
-    either v e later h = grind (arith, nat_tests, given.0)
+listed (x ∷ xs) b last given there = grind (arith, nat_tests, given.0, listed xs b last given.1)
 
 there-counts : (branches : List Branch) (b last : ℕ) → AllByRecursion (λ (x : Branch). x.id ≤ last) branches
     → IsCount last → has_branch branches b ≡ true → IsCount b
@@ -127,11 +123,9 @@ module _ (p : Plan) (sound : IsSound p) (small : IsCount p.revision) where
       → AllByRecursion (λ (b : Bookmark). IsCount b.id × IsWritten (add_bookmark b)) xs
   bookmark-one [] given placed near within = tt
   bookmark-one (b ∷ bs) given placed near within =
-      let low = sound.bookmarks_within in (
-        (
-          omega (arith, given.0, low, small),
-          (placed-counts b.branch b.generation placed.0, omega (arith, near.0), view-written b.view within.0),
-        ),
+      let low = sound.bookmarks_within in
+      let there = placed-counts b.branch b.generation placed.0 in (
+        grind (arith, view-written, low, there, given.0, near.0, within.0),
         bookmark-one bs given.1 placed.1 near.1 within.1,
       )
 

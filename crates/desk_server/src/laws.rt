@@ -7,28 +7,33 @@ ghost use Rattle.desk_server.specs.Plain.{PlainWithoutShortages};
 ghost use Rattle.desk_server.specs.Watch.{ShowsAllUnlessCounted, ShowsWhatIsTold};
 
 /// Where no reply shows a want, the replies are those where none is met.
+#[tactic(auto, using(crate::proofs::Plain::afters_plain))]
 pub fn plain_without_shortages()
     ensures { PlainWithoutShortages }
 {}
 
 /// The document after each reply to a script keeps the limits of documents.
+#[tactic(auto, using(crate::proofs::OneLine::documents_sound))]
 pub fn documents_are_sound()
     ensures { DocumentsAreSound }
 {}
 
 /// Where a script adds no branch, the document after each reply has one line of history, and its
 /// bookmarks show what that line gives.
+#[tactic(auto, using(crate::proofs::OneLine::documents_one_line))]
 pub fn one_line_without_branch()
     ensures { OneLineWithoutBranch }
 {}
 
 /// Where no snapshot was refused, the history has one more for each reply but `bye`, in order.
+#[tactic(auto, using(crate::proofs::Noted::shows_all))]
 pub fn shows_all_unless_counted()
     ensures { ShowsAllUnlessCounted }
 {}
 
 /// A snapshot shows what the reply before it tells: after `settled` each row has its text, and the
 /// bookmark that is shown has in its row the text that was told, or none where it is pending.
+#[tactic(auto, using(crate::proofs::Pictured::shows_told))]
 pub fn shows_what_is_told()
     ensures { ShowsWhatIsTold }
 {}
@@ -36,29 +41,34 @@ pub fn shows_what_is_told()
 /// Worked pictures, to which that law applies. A desk has one bookmark. With its text the picture
 /// stands after `settled` and after the text was shown, and without it after the bookmark was told
 /// to be pending.
+#[tactic(auto, using(crate::proofs::Example::pictures_of_one))]
 pub fn pictures_of_one_bookmark()
     ensures { PicturesOfOne }
 {}
 
 /// The line of an edit, in a script that makes a document anew, asks for this edit.
+#[tactic(auto, using(crate::proofs::Anew::lines_read_back))]
 pub fn edit_lines_read_back()
     ensures { EditLinesReadBack }
 {}
 
 /// The script that is written of a document makes it anew: each of its commands is accepted, and
 /// the last leaves the document but for its revision and the last ids.
+#[tactic(auto, using(crate::proofs::Remade::scripts_anew))]
 pub fn scripts_make_documents_anew()
     ensures { ScriptsMakeAnew }
 {}
 
 /// Whatever a script says, the text that is kept is that of the document's rule, in lines of which
 /// none ends a text. Where none is kept the rule is the opening document's.
+#[tactic(auto, using(crate::proofs::RuleTexts::kept_texts))]
 pub fn kept_texts_are_rules()
     ensures { KeptTextsAreRules }
 {}
 
 /// Whatever a script says, the script that is written in one of its sessions makes the document
 /// anew, where its start has few enough distinct squares and two revisions are left.
+#[tactic(auto, using(crate::proofs::EachSession::scripted_anew))]
 pub fn whatever_is_scripted_is_made_anew()
     ensures { WhateverIsScriptedIsMadeAnew }
 {}

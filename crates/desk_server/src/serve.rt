@@ -213,6 +213,7 @@ fn give_up(desk: &mut Desk<'_>)
 
 // Computes what isn't known, and gives the cause where one left bookmarks pending. Whatever is out
 // then is given up, so that it is computed anew another time.
+#[tactic(auto, using(crate::proofs::Jobs::carries_served, crate::proofs::Jobs::carries_on, crate::proofs::Jobs::causes_kept, crate::proofs::Jobs::why_explained, crate::proofs::Jobs::why_stopped, crate::proofs::Jobs::none_untold))]
 fn compute<P: Post, O: Onlooker>(
     rt: &impl Wait,
     desk: &mut Desk<'_>,
@@ -237,6 +238,7 @@ fn compute<P: Post, O: Onlooker>(
     }
 }
 
+#[tactic(auto, using(crate::proofs::Noted::draws_more, crate::proofs::Noted::watched, crate::proofs::Jobs::nothing_out, crate::proofs::Pictured::all_known))]
 fn settle<P: Post, O: Onlooker>(
     rt: &impl Wait,
     desk: &mut Desk<'_>,
@@ -277,6 +279,7 @@ fn work<P: Post>(rt: &impl Wait, desk: &mut Desk<'_>, post: &mut P) -> Reply
 }
 
 // Shows a bookmark: at once, unless its text isn't known. Then what isn't known is computed first.
+#[tactic(auto, using(crate::proofs::Noted::draws_more, crate::proofs::Noted::watched, crate::proofs::Noted::draws_none, crate::proofs::Noted::unwatched, crate::proofs::Replies::not_pending))]
 fn show<P: Post, O: Onlooker>(
     rt: &impl Wait,
     desk: &mut Desk<'_>,
@@ -309,6 +312,7 @@ fn show<P: Post, O: Onlooker>(
 
 // Collects the answers that have come and sends jobs for what is needed next, and waits for no
 // answer.
+#[tactic(auto, using(crate::proofs::Replies::gives_polled))]
 fn poll<P: Post>(rt: &impl Wait, desk: &mut Desk<'_>, post: &mut P) -> Reply
     requires { Carries (P.view post.old) desk.old }
     ensures answer { GivesBy (P.view post.old).is_prompt (λ short. polled short desk.old.plan)
@@ -357,6 +361,7 @@ fn script(alloc: Global, desk: &Desk<'_>, rule: &RuleText) -> Reply
     }
 }
 
+#[tactic(auto, using(crate::proofs::Noted::draws_none, crate::proofs::Noted::unwatched))]
 fn obey<P: Post, O: Onlooker>(
     rt: &impl Wait,
     alloc: Global,
@@ -392,6 +397,7 @@ fn obey<P: Post, O: Onlooker>(
 
 /// Does what a request asks, and gives the reply. What has to be computed goes over the post, while
 /// the desk is looked at and the bell rings.
+#[tactic(auto, using(crate::proofs::Replies::keeps_obeyed, crate::proofs::Replies::serves_taken, crate::proofs::Replies::keeps_taken, crate::proofs::Replies::keeps_same, crate::proofs::Noted::looked_obeyed))]
 pub(crate) fn serve<P: Post, O: Onlooker>(
     rt: &impl Wait,
     alloc: Global,

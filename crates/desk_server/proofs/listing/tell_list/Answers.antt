@@ -10,7 +10,8 @@ pub returns-in_err-tell_branches-clause-bytes : goal.returns-in_err-tell_branche
 returns-in_err-tell_branches-clause-bytes g c = grind (arith, all-lines, front_first, wrote_err)
 
 pub returns-in_err-tell_interventions-clause-bytes : goal.returns-in_err-tell_interventions-clause-bytes
-returns-in_err-tell_interventions-clause-bytes g c = grind (arith, all-lines, front_first, front_then, wrote_err)
+returns-in_err-tell_interventions-clause-bytes g c = grind
+    (arith, all-lines, front_first, front_then, wrote_err)
 
 pub returns-in_err-tell_bookmarks-clause-bytes : goal.returns-in_err-tell_bookmarks-clause-bytes
 returns-in_err-tell_bookmarks-clause-bytes g c =

@@ -1,23 +1,19 @@
-use Rattle.std.proofs.Common.{refl, ap, Some, codes, rules}
+use Rattle.std.proofs.Common.{refl, ap, rules}
 use Rattle.std.specs.Arc.{arc_value}
-use Rattle.schedule.specs.Change.{Changed, change}
+use Rattle.schedule.specs.Change.{change}
 use Rattle.schedule.specs.Asked.{ReplaceStart}
 use Rattle.schedule.specs.declared.fault.EditFault.TheVariants.{NoMemory}
 use Rattle.dependency_book.specs.BookState.{BookState}
 use Rattle.desk_server.specs.Shortage.{NoShortage}
-use Rattle.desk_server.specs.Answer.{accepted}
 use Rattle.desk_server.specs.Faults.{of_edit}
 use Rattle.desk_server.proofs.Jobs.{drops_none, edit_drops}
 use Rattle.desk_server.proofs.Replies.{gives-refused}
 use Rattle.desk_server.proofs.serve.begin.Goals as goal
 
 pub returns-in-Err-clause-answer : goal.returns-in-Err-clause-answer
-returns-in-Err-clause-answer c =
-    let p = c.args.desk.now.plan in
-    gives-refused p c.edit.new.self c.refused.result of_edit
-    (λ (d : Changed). accepted d (codes " gen ") (Some c.args.generation)) c.in-Err.fault NoMemory
-    (change p (ReplaceStart (arc_value c.args.start)))
-    refl (ap (λ (k : BookState). k.plan) c.in-Err.ensures.unchanged) c.in-Err.ensures.refused c.refused.ensures.text
+returns-in-Err-clause-answer c = gives-refused _ c.edit.new.self _ of_edit _ c.in-Err.fault NoMemory
+    (change c.args.desk.now.plan (ReplaceStart (arc_value c.args.start))) refl
+    (ap (λ (k : BookState). k.plan) c.in-Err.ensures.unchanged) c.in-Err.ensures.refused c.refused.ensures.text
     c.refused.ensures.goes_on
 
 pub returns-clause-answer : goal.returns-clause-answer

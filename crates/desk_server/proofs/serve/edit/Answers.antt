@@ -1,22 +1,18 @@
 use Rattle.std.proofs.Common.{refl, ap, rules}
 use Rattle.schedule.specs.Asked.{asked_of}
-use Rattle.schedule.specs.Change.{Changed, change}
+use Rattle.schedule.specs.Change.{change}
 use Rattle.schedule.specs.declared.fault.EditFault.TheVariants.{NoMemory}
 use Rattle.dependency_book.specs.BookState.{BookState}
 use Rattle.desk_server.specs.Shortage.{NoShortage}
-use Rattle.desk_server.specs.Answer.{id_word, accepted}
 use Rattle.desk_server.specs.Faults.{of_edit}
 use Rattle.desk_server.proofs.Jobs.{drops_none, edit_drops}
 use Rattle.desk_server.proofs.Replies.{gives-refused}
 use Rattle.desk_server.proofs.serve.edit.Goals as goal
 
 pub returns-in-Err-clause-answer : goal.returns-in-Err-clause-answer
-returns-in-Err-clause-answer c =
-    let p = c.args.desk.now.plan in
-    let asked = asked_of c.args.edit.now in
-    gives-refused p c.edit.new.self c.refused.result of_edit
-    (λ (d : Changed). accepted d (id_word asked) d.edited.id) c.in-Err.fault NoMemory (change p asked)
-    refl (ap (λ (k : BookState). k.plan) c.in-Err.ensures.unchanged) c.in-Err.ensures.refused c.refused.ensures.text
+returns-in-Err-clause-answer c = gives-refused _ c.edit.new.self _ of_edit _ c.in-Err.fault NoMemory
+    (change c.args.desk.now.plan (asked_of c.args.edit.now)) refl
+    (ap (λ (k : BookState). k.plan) c.in-Err.ensures.unchanged) c.in-Err.ensures.refused c.refused.ensures.text
     c.refused.ensures.goes_on
 
 pub returns-in-Ok-clause-answer : goal.returns-in-Ok-clause-answer

@@ -1,7 +1,7 @@
 use Rattle.std.proofs.Common.{arith, rules, sym, subst}
 use Rattle.desk_server.specs.Shortage.{NoShortage}
 use Rattle.desk_server.specs.Told.{TellsPending}
-use Rattle.desk_server.proofs.Noted.{draws_more, draws_none, unwatched}
+use Rattle.desk_server.proofs.Noted.{draws_more, unwatched}
 use Rattle.desk_server.proofs.Replies.{polled_goes_on}
 use Rattle.desk_server.proofs.serve.obey.Goals as goal
 
@@ -17,23 +17,5 @@ returns-in-Settle-clause-looked g c = rw c.in-Settle.is c.settle.ensures.looked
 pub returns-in-Show-clause-looked : goal.returns-in-Show-clause-looked
 returns-in-Show-clause-looked g c = rw c.in-Show.is c.show.ensures.looked
 
-pub returns-in-Edit-clause-looked : goal.returns-in-Edit-clause-looked
-returns-in-Edit-clause-looked g c = grind (arith, draws_none, unwatched)
-
-pub returns-in-Work-clause-looked : goal.returns-in-Work-clause-looked
-returns-in-Work-clause-looked g c = grind (arith, draws_none, unwatched)
-
-pub returns-in-Peek-clause-looked : goal.returns-in-Peek-clause-looked
-returns-in-Peek-clause-looked g c = grind (arith, draws_none, unwatched)
-
 pub returns-in-Poll-clause-looked : goal.returns-in-Poll-clause-looked
 returns-in-Poll-clause-looked g c = grind (arith, draws_more, polled_goes_on, unwatched)
-
-pub returns-in-List-clause-looked : goal.returns-in-List-clause-looked
-returns-in-List-clause-looked g c = grind (arith, draws_none, unwatched)
-
-pub returns-in-Quit-clause-looked : goal.returns-in-Quit-clause-looked
-returns-in-Quit-clause-looked g c = grind (arith, draws_none, unwatched)
-
-pub returns-in-Script-clause-looked : goal.returns-in-Script-clause-looked
-returns-in-Script-clause-looked g c = grind (arith, draws_none, unwatched)

@@ -1,16 +1,6 @@
-use Rattle.std.proofs.Common.{arith}
-use Rattle.desk_server.proofs.Replies.{serves-memory, serves-refused, serves-taken, none-lacks, keeps-same, keeps-obeyed, keeps-taken}
-use Rattle.desk_server.proofs.Noted.{looked_obeyed, looked_none, looked_refused, looked_taken}
+use Rattle.desk_server.proofs.Replies.{serves-memory, serves-refused, none-lacks}
+use Rattle.desk_server.proofs.Noted.{looked_none, looked_refused, looked_taken}
 use Rattle.desk_server.proofs.serve.serve.Goals as goal
-
-pub returns-in-Obey-clause-kept : goal.returns-in-Obey-clause-kept
-returns-in-Obey-clause-kept g c = grind (arith, keeps-obeyed)
-
-pub returns-in-Take-clause-answer : goal.returns-in-Take-clause-answer
-returns-in-Take-clause-answer g c = grind (arith, serves-taken)
-
-pub returns-in-Take-clause-kept : goal.returns-in-Take-clause-kept
-returns-in-Take-clause-kept g c = grind (arith, keeps-taken)
 
 pub returns-in-Refuse-clause-answer : goal.returns-in-Refuse-clause-answer
 returns-in-Refuse-clause-answer g c =
@@ -18,20 +8,11 @@ returns-in-Refuse-clause-answer g c =
     _ c.args.request c.in-Refuse.fault c.refused.result c.args.desk.now c.args.rule.now
     c.in-Refuse.is (c.refused.ensures.text c.args.desk.now) c.refused.ensures.goes_on
 
-pub returns-in-Refuse-clause-kept : goal.returns-in-Refuse-clause-kept
-returns-in-Refuse-clause-kept g c = keeps-same c.args.request c.args.desk.now c.args.rule.now
-
 pub returns-in-NoMemory-clause-answer : goal.returns-in-NoMemory-clause-answer
 returns-in-NoMemory-clause-answer g c =
     serves-memory _ c.args.request c.refused-in-NoMemory.result c.args.desk.now c.args.rule.now
     (none-lacks c.args.request c.in-NoMemory.is)
     (c.refused-in-NoMemory.ensures.text c.args.desk.now) c.refused-in-NoMemory.ensures.goes_on
-
-pub returns-in-NoMemory-clause-kept : goal.returns-in-NoMemory-clause-kept
-returns-in-NoMemory-clause-kept g c = keeps-same c.args.request c.args.desk.now c.args.rule.now
-
-pub returns-in-Obey-clause-looked : goal.returns-in-Obey-clause-looked
-returns-in-Obey-clause-looked g c = grind (arith, looked_obeyed)
 
 pub returns-in-Take-clause-looked : goal.returns-in-Take-clause-looked
 returns-in-Take-clause-looked g c =

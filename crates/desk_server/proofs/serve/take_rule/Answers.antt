@@ -1,20 +1,14 @@
 use Rattle.std.proofs.Common.{refl, rules}
 use Rattle.rule_file.specs.declared.fault.RuleFault.TheVariants.{NoMemory}
-use Rattle.rule_tree.specs.declared.rule.Rule.{Rule}
 use Rattle.rule_tree.specs.Rule.{rule_of}
-use Rattle.schedule.specs.Asked.{ReplaceRule}
 use Rattle.desk_server.specs.Shortage.{Memory}
-use Rattle.desk_server.specs.Answer.{edited}
 use Rattle.desk_server.specs.Faults.{of_rule}
 use Rattle.desk_server.proofs.Replies.{gives-refused}
 use Rattle.desk_server.proofs.serve.take_rule.Goals as goal
 
 pub returns-in-Err-clause-answer : goal.returns-in-Err-clause-answer
-returns-in-Err-clause-answer c =
-    let p = c.args.desk.now.plan in
-    gives-refused p c.args.desk.now c.refused.result of_rule
-    (λ (rule : Rule). edited p (ReplaceRule rule)) c.in-Err.fault NoMemory (rule_of c.args.text.now)
-    refl refl c.in-Err.ensures.rule c.refused.ensures.text c.refused.ensures.goes_on
+returns-in-Err-clause-answer c = gives-refused _ c.args.desk.now _ of_rule _ c.in-Err.fault NoMemory
+    (rule_of c.args.text.now) refl refl c.in-Err.ensures.rule c.refused.ensures.text c.refused.ensures.goes_on
 
 pub returns-clause-answer : goal.returns-clause-answer
 returns-clause-answer c = (Memory, λ _. tt, search rules)

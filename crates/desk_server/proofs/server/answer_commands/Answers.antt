@@ -61,9 +61,11 @@ returns-then-last g c =
     let h = c.script.invariant in
     let heard = c.in-Ok.ensures.heard in
     let works : Works c.script.reader c.listen.new.reader c.script.writer c.script.writer = search rules in
-    let finishes = answers_finishes _ _ _ _ _ _ _ _ _ _ _ _ h.answered _ _ (notes_join g.O.Onlooker.sees _ _ _)
+    let finishes = answers_finishes _ _ _ _ _ _ _ _ _ _ _ _ h.answered _ _
+    (notes_join g.O.Onlooker.sees _ _ _)
     (done_silent _ (g.P.Post.view c.args.post.now).is_prompt _ _ _ _ _ (session c.script.desk c.script.rule) _ _
-    (notes_none g.O.Onlooker.sees (moment c.script.missed (g.P.Post.view c.script.post) c.script.desk c.script.onlooker))
+    (notes_none g.O.Onlooker.sees (moment c.script.missed
+    (g.P.Post.view c.script.post) c.script.desk c.script.onlooker))
     c.in_default-request.is heard c.if-last.true) in
     let all = completed g.O.Onlooker.sees _ _ _ _ _ _ _ _ _ _ _ c.requires.opening finishes
     (works_then _ _ _ _ _ _ h.works works) in
@@ -74,9 +76,11 @@ script-preserved-in_default-request g c =
     let h = c.script.invariant in
     let works : Works c.script.reader c.listen.new.reader c.script.writer c.script.writer = search rules in
     record {
-      answered = answers_answers _ _ _ _ _ _ _ _ _ _ _ _ h.answered _ _ _ _ (notes_join g.O.Onlooker.sees _ _ _)
+      answered = answers_answers _ _ _ _ _ _ _ _ _ _ _ _ h.answered _ _ _ _
+          (notes_join g.O.Onlooker.sees _ _ _)
           (goes_on_silent _ (g.P.Post.view c.args.post.now).is_prompt _ _ _ _ _ (session c.script.desk c.script.rule) _ _
-          (notes_none g.O.Onlooker.sees (moment c.script.missed (g.P.Post.view c.script.post) c.script.desk c.script.onlooker))
+          (notes_none g.O.Onlooker.sees (moment c.script.missed
+          (g.P.Post.view c.script.post) c.script.desk c.script.onlooker))
           c.in_default-request.is c.in-Ok.ensures.heard c.if-last.false);
       post = h.post;
       works = works_then _ _ _ _ _ _ h.works works;
@@ -95,7 +99,8 @@ returns-then-is_err-clause-write g c = λ _.
           heard (served prompt c.in-Ok.heard.request c.in-Some.request heard.asked
           (session c.script.desk c.script.rule) c.serve-reply.new.desk c.serve-reply.new.rule c.serve-reply.result c.in-Some.is heard.is
           (rw h.post.kind at c.serve-reply.ensures.answer) c.serve-reply.ensures.kept)
-          _ _ (wrote_is_err _ _ c.send.result _ (sym c.is_err.ensures.value ∙ c.if-is_err.true) c.send.ensures.bytes)));
+          _ _ (wrote_is_err _ _ c.send.result _ (sym c.is_err.ensures.value
+          ∙ c.if-is_err.true) c.send.ensures.bytes)));
       fails = fails ∙ ap (λ n. n + 1) h.works.writes;
     }
 
@@ -110,7 +115,8 @@ returns-then-is_bye g c =
     c.serve-reply.result c.in-Some.is heard.is (rw h.post.kind at c.serve-reply.ensures.answer) c.serve-reply.ensures.kept in
     let still = (c.serve-reply.ensures.looked s.0 s.3).bye (ap ends bye) in
     let works : Works c.script.reader c.listen.new.reader c.script.writer c.send.new.writer = search rules in
-    let finishes = answers_finishes _ _ _ _ _ _ _ _ _ _ _ _ h.answered _ _ (notes_join g.O.Onlooker.sees _ _ _)
+    let finishes = answers_finishes _ _ _ _ _ _ _ _ _ _ _ _ h.answered _ _
+    (notes_join g.O.Onlooker.sees _ _ _)
     (done_bye prompt _ _ _ _ (session c.script.desk c.script.rule) c.serve-reply.new.desk
     c.serve-reply.new.rule _ _ c.in-Some.request c.serve-reply.result heard s _ _ _
     (notes_same g.O.Onlooker.sees c.script.missed (g.P.Post.view c.script.post) (g.P.Post.view c.serve-reply.new.post)
@@ -130,7 +136,8 @@ returns-then-last-2 g c =
     let s = served prompt c.in-Ok.heard.request c.in-Some.request heard.asked
     (session c.script.desk c.script.rule) c.serve-reply.new.desk c.serve-reply.new.rule
     c.serve-reply.result c.in-Some.is heard.is (rw h.post.kind at c.serve-reply.ensures.answer) c.serve-reply.ensures.kept in
-    let finishes = answers_finishes _ _ _ _ _ _ _ _ _ _ _ _ h.answered _ _ (notes_join g.O.Onlooker.sees _ _ _)
+    let finishes = answers_finishes _ _ _ _ _ _ _ _ _ _ _ _ h.answered _ _
+    (notes_join g.O.Onlooker.sees _ _ _)
     (done_last prompt _ _ _ _ (session c.script.desk c.script.rule) c.serve-reply.new.desk
     c.serve-reply.new.rule _ _ c.in-Some.request c.serve-reply.result heard s _ _ _ other c.if-last-2.true
     (notes_one g.O.Onlooker.sees
@@ -154,7 +161,8 @@ script-preserved g c =
     (session c.script.desk c.script.rule) c.serve-reply.new.desk c.serve-reply.new.rule
     c.serve-reply.result c.in-Some.is heard.is (rw h.post.kind at c.serve-reply.ensures.answer) c.serve-reply.ensures.kept in
     record {
-      answered = answers_answers _ _ _ _ _ _ _ _ _ _ _ _ h.answered _ _ _ _ (notes_join g.O.Onlooker.sees _ _ _)
+      answered = answers_answers _ _ _ _ _ _ _ _ _ _ _ _ h.answered _ _ _ _
+          (notes_join g.O.Onlooker.sees _ _ _)
           (goes_on_told prompt _ _ _ _ (session c.script.desk c.script.rule) c.serve-reply.new.desk
           c.serve-reply.new.rule _ _ c.in-Some.request c.serve-reply.result heard s _ _ _ c.if-last-2.false other
           (notes_one g.O.Onlooker.sees
