@@ -1,21 +1,17 @@
 -- What is out after jobs were dropped.
-use Rattle.std.proofs.Common.{◌≡◌, ◌≢◌, ℕ, ◌-◌, ◌^◌, ◌<◌, ◌≤◌, Bool, true, false, cond, List, Option, None, Some, IfSome, IfNone, IsSome, ◌==◌, sym, ap, refl, subst, arith}
+use Rattle.std.proofs.Common.{◌≡◌, ◌≢◌, ℕ, ◌-◌, ◌^◌, ◌<◌, ◌≤◌, true, false, List, Option, None, Some, IfSome, IfNone, IsSome, ◌==◌, sym, ap, refl, subst, arith}
 use Rattle.std.proofs.lemmas.Bool.Decides.{nat_tests}
-use Rattle.worlds.specs.World.{World}
 use Rattle.schedule.specs.Asked.{Asked}
-use Rattle.schedule.specs.declared.document.Bookmark.{Bookmark}
 use Rattle.revision_jobs.specs.declared.entries.Entries.{Entries}
 use Rattle.revision_jobs.specs.declared.answer.Job.{Job}
 use Rattle.revision_jobs.specs.Answer.{JobResult}
 use Rattle.dependency_book.specs.declared.row.RowState.{RowState}
-use Rattle.dependency_book.specs.declared.row.RowState.TheVariants.{Empty, Known}
 use Rattle.desk_events.specs.declared.need.Need.{Need}
 use Rattle.desk_events.specs.declared.need.Need.TheVariants.{Step, View}
 use Rattle.dependency_book.specs.RowState.{job_of, has_number, state_map}
 use Rattle.dependency_book.specs.Jobs.{cancelled, IsFirstOut, SameBook}
-use Rattle.dependency_book.specs.Kept.{KeepsRows, text_kept}
+use Rattle.dependency_book.specs.Kept.{KeepsRows}
 use Rattle.desk_events.specs.declared.mark.Mark.{Mark}
-use Rattle.schedule.specs.declared.branch.Branch.{Branch}
 use Rattle.dependency_book.specs.Recalled.{Revises}
 use Rattle.desk_core.proofs.Shared.Recalled.{recalls_out}
 use Rattle.desk_events.specs.Marks.{mark_at}
@@ -51,10 +47,6 @@ its_number : (n : ℕ) (o : Option Job) → has_number n o ≡ true → (job : J
 its_number n None h = absurd (cc)
 its_number n (Some job) h = (job, refl, h)
 
-first_rises : (n m : ℕ) (old new : BookState) → ((need : Need) → row_of new need ≡ cancelled n (row_of old need))
-    → IsFirstOut old (Some n) → IsFirstOut new (Some m) → n < m
-first_rises n m old new rows before after = grind (arith, nat_tests, cancelled_out, its_number)
-
 -- how many numbers are from the first one on
 abbrev pub numbers_from : Option ℕ → ℕ
 numbers_from None = 0
@@ -63,26 +55,17 @@ numbers_from (Some n) = 2 ^ 32 - n
 pub first_falls : (n : ℕ) (next : Option ℕ) (old new : BookState) → n < 2 ^ 32
     → ((need : Need) → row_of new need ≡ cancelled n (row_of old need)) → IsFirstOut old (Some n) → IsFirstOut new next
     → numbers_from next < numbers_from (Some n)
-first_falls n next old new few rows before after = grind (arith, first_rises)
+first_falls n next old new few rows before after = grind (arith, nat_tests, cancelled_out, its_number)
 
 -- an edit
 out_of_map : {V W : Type 0} (f : V → W) (row : RowState V) → job_of (state_map f row) ≡ job_of row
 out_of_map f row = grind (arith)
 
-kept_arrival : (at_start keeps : Bool) (world : World) (row : RowState World) (job : Job)
-    → job_of (cond at_start (Known world) (cond keeps row Empty)) ≡ Some job → job_of row ≡ Some job
-kept_arrival at_start keeps world row job e = grind (arith)
-
-kept_of : {V : Type 0} (branches : List Branch) (felt : Option Mark) (asked : Asked) (bookmark : Option Bookmark)
-    (row : RowState V) (job : Job) → job_of (text_kept branches felt asked bookmark row) ≡ Some job
-    → job_of row ≡ Some job
-kept_of branches felt asked bookmark row job e = grind (arith)
-
 edit_keeps_out : (asked : Asked) (felt : Option Mark) (old new : BookState) → KeepsRows asked felt old new
     → (need : Need) (job : Job) → expected new need ≡ Some job → expected old need ≡ Some job
-edit_keeps_out asked felt old new keeps (Step branch g) job e = grind
-    (arith, kept_arrival, out_of_map, keeps.arrivals (mark_at branch g))
-edit_keeps_out asked felt old new keeps (View id) job e = grind (arith, kept_of, out_of_map, keeps.texts id)
+edit_keeps_out asked felt old new keeps (Step branch g) job e =
+    grind (arith, out_of_map, keeps.arrivals (mark_at branch g))
+edit_keeps_out asked felt old new keeps (View id) job e = grind (arith, out_of_map, keeps.texts id)
 
 pub edit_drops : (asked : Asked) (old new : BookState) → Revises asked old new → DropsJobs old new
 edit_drops asked old new h = record {
@@ -93,11 +76,8 @@ edit_drops asked old new h = record {
 }
 
 -- at the beginning
-none_at : (at_start : Bool) (world : World) (job : Job) → job_of (cond at_start (Known world) Empty) ≡ Some job → ⊥
-none_at at_start world job e = grind (arith)
-
 none_opened : (table : Entries) (held : Option Job) → IsHeld held (opened table 0)
-none_opened table held x2 job e = grind (arith, none_at, out_of_map)
+none_opened table held need job e = grind (arith, out_of_map)
 
 pub carries_first : (post : PostView) (entries : Entries) (d : BookState) → d ≡ opened entries 0 → IsFresh post entries
     → Carries post d
@@ -111,9 +91,6 @@ pub nothing_out : (d : BookState) (n : ℕ) → IsDoneWith d → n ≡ pending_o
 nothing_out d n h is some = grind (arith)
 
 -- a post that wasn't touched carries the jobs of a desk that gave no new ones
-carries_same : (post : PostView) (old new : BookState) → DropsJobs old new → Carries post old → CarriesOn post post new
-carries_same post old new drops c = grind (arith)
-
 -- what explained a cause before jobs were given up
 pub causes_kept : (limit : ℕ) (first old new : BookState) (answers : List JobResult) (cause : Option Cause)
     → KeepsCauses old new → IfSome cause (Explains limit first old answers)
@@ -142,7 +119,7 @@ carries_served first last old new c s = grind (arith)
 -- what a desk is left with that gave jobs up after a post carried on
 pub carries_on : (first last : PostView) (mid new : BookState) → DropsJobs mid new → CarriesOn first last mid
     → CarriesOn first last new
-carries_on first last mid new drops c = grind (arith, carries_same)
+carries_on first last mid new drops c = grind (arith)
 
 -- after one command, and then another
 pub carries_further : (first mid last : PostView) (d : BookState) → mid.limit ≡ first.limit

@@ -1,17 +1,14 @@
 -- Which lines can be out of memory.
-use Rattle.std.proofs.Common.{◌≡◌, ℕ, ◌≤◌, ◌<◌, List, ◌∷◌, length, length-append, Bool, true, false, codes, ap, refl, arith, Option, Some, None}
+use Rattle.std.proofs.Common.{◌≡◌, ℕ, ◌≤◌, ◌<◌, List, ◌∷◌, length, length-append, Bool, true, false, codes, ap, arith, Option, Some, None}
 use Rattle.std.specs.List.{join_with_byte}
 use Rattle.std.specs.Option.{option_map}
 use Rattle.std.specs.Str.{bytes_eq}
 use Rattle.std.proofs.lemmas.Slice.Eq.{bytes_eq-Decides}
 use Rattle.script_lines.specs.Words.{words, squashed}
 use Rattle.schedule.specs.declared.edit.Edit.{Edit}
-use Rattle.schedule.specs.declared.document.Bookmark.{Bookmark}
-use Rattle.schedule.specs.Plan.{Plan}
 use Rattle.desk_server.specs.Command.{command_of, command_of_words, command_by, looking_by, format_of, format_of_words, start_of}
 use Rattle.desk_server.specs.Script.{asked_by}
-use Rattle.desk_server.specs.Shortage.{Memory}
-use Rattle.desk_server.specs.Answer.{shown, no_memory, CanLackMemory}
+use Rattle.desk_server.specs.Answer.{CanLackMemory}
 use Rattle.desk_server.specs.declared.format.Format.{Format}
 use Rattle.desk_server.specs.declared.command.Command.{Command}
 use Rattle.desk_server.specs.declared.command.Command.TheVariants as command
@@ -29,13 +26,9 @@ abbrev opens : Option Format → Bool
 opens None = false
 opens (Some format) = true
 
-shown-lacks : (p : Plan) (id : ℕ) (b : Option Bookmark) → shown Memory p id b ≡ no_memory p
-shown-lacks p id None = refl
-shown-lacks p id (Some b) = refl
-
 -- all others can meet it
 other-lacks : (n : ℕ) (c : Option Command) → is_fixed c ≡ false → CanLackMemory (asked_by n c)
-other-lacks n c h = grind (arith, shown-lacks)
+other-lacks n c h = grind (arith)
 
 edit-open : (e : Option Edit) → is_fixed (option_map command.Edit e) ≡ false
 edit-open e = grind (arith)

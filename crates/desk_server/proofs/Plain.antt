@@ -76,7 +76,6 @@ obeyed-plain : (prompt : Bool) (short : Shortage) (s : Session) (command : Comma
 obeyed-plain prompt short s (command.Edit edit) h =
     unless-plain prompt short s.plan (edited s.plan (asked_of edit))
 obeyed-plain prompt short s command.Settle h = settled-plain prompt short s.plan h
-obeyed-plain prompt short s command.Work h = inl refl
 obeyed-plain prompt short s (command.Show id) h =
     shown-plain prompt short s.plan id (bookmark_in s.plan.bookmarks id)
 obeyed-plain prompt short s (command.Peek id) h =
@@ -84,7 +83,7 @@ obeyed-plain prompt short s (command.Peek id) h =
 obeyed-plain prompt short s command.Poll h = polled-plain prompt short s.plan
 obeyed-plain prompt short s command.List h = listed-plain prompt short s.plan
 obeyed-plain prompt short s command.Script h = unless-plain prompt short s.plan (scripted NoShortage s)
-obeyed-plain prompt short s command.Quit h = inl refl
+obeyed-plain prompt short s command h = inl refl
 
 answer-plain : (prompt : Bool) (short : Shortage) (s : Session) (ask : Ask) → IsCausedOver prompt short
     → IsPlain prompt (answer short s ask) (answer NoShortage s ask)

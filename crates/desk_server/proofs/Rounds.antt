@@ -60,14 +60,11 @@ zip_none : {K X : Type 0} (ks : List K) → zip {K = K} {X = X} ks [] ≡ []
 zip_none [] = refl
 zip_none (k ∷ ks) = refl
 
-zip_unless : {K X : Type 0} (b : Bool) (ks : List K) (xs : List X) → zip ks (cond b [] xs) ≡ cond b [] (zip ks xs)
-zip_unless b ks xs = grind (arith, zip_none)
-
 -- the answer to one command, and those to the rest
 after_is : (short : Shortage) (s : Session) (ask : Ask) (r : Reply) (k : BookState) (t : Option (List ℕ))
     → Gives (answer short s ask) r k → t ≡ rule_text_after s ask k.plan → (rest : List Ask) (later : List Shortage)
     → answered s (ask ∷ rest) (short ∷ later) ≡ one_of ask k r ∷ cond (ends r) [] (answered (session k t) rest later)
-after_is short s ask r k t e kept rest later = grind (arith, zip_unless)
+after_is short s ask r k t e kept rest later = grind (arith, zip_none)
 
 -- of two lists of answers, the texts and those but `bye`
 texts-append : (xs ys : List Answered) → told_to (xs ++ ys) ≡ told_to xs ++ told_to ys
@@ -92,15 +89,12 @@ replies_told p (ask ∷ rest) shortages =
 
 -- one answer alone
 -- nothing was asked
-asked_nothing : (heard : Option Request) (asked : List Ask) → heard ≡ None → AsksIfAny heard asked → asked ≡ []
-asked_nothing heard asked e is = grind (arith)
-
 module _ (noted : List Answered → Type 0) (prompt : Bool) (old new : Ahead) (told : Option (List ℕ))
     (heard : Option Request) (last : Bool) (k : Session) (n m : ℕ) (notes : noted []) (none : heard ≡ None)
     (h : Hears old new Between heard last n m) where
   silent : (stop : End) (more : List ℕ) → Follows last stop more
       → asks stop Between n (lines_until stop (h.bytes ++ more)) ≡ asks stop Between m (lines_until stop more)
-  silent stop more f = grind (arith, h.law, asked_nothing)
+  silent stop more f = grind (arith, h.law)
 
   pub goes_on_silent : last ≡ false → Answers noted prompt old new told told k k n m
   goes_on_silent e = record {
@@ -135,9 +129,8 @@ pub served : (prompt : Bool) (heard : Option Request) (request : Request) (asked
 served prompt heard request asked j k t r e is gives keeps = grind (arith)
 
 module _ (prompt : Bool) (old new : Ahead) (heard : Option Request) (last : Bool) (j : Session)
-    (k : BookState)
-    (t : Option (List ℕ)) (n m : ℕ) (q : Request) (r : Reply) (h : Hears old new Between heard last n m)
-    (s : Served prompt q r h.asked j k t) where
+    (k : BookState) (t : Option (List ℕ)) (n m : ℕ) (q : Request) (r : Reply)
+    (h : Hears old new Between heard last n m) (s : Served prompt q r h.asked j k t) where
   -- what is answered behind this reply, unless it ends the script
   abbrev behind : End → List ℕ → List Shortage → List Answered
   behind stop more later = answered (session k t) (asks stop Between m (lines_until stop more)) later
@@ -213,12 +206,6 @@ notes_both first next both join xs ys f g = grind (arith, but_bye-append)
 module _ (first : List Answered → Type 0) (prompt : Bool) (a b c : Ahead) (x y z : Option (List ℕ))
     (p q : Session) (n m : ℕ) (f : Answers first prompt a b x y p q n m) where
   -- the answers to more bytes, for more shortages
-  go_on : (bytes : List ℕ) (shortages : List Shortage) (stop : End) (more : List ℕ) (later : List Shortage)
-      → answered p (asks stop Between n (lines_until stop ((f.bytes ++ bytes) ++ more)))
-      ((f.shortages ++ shortages) ++ later)
-      ≡ f.given ++ answered q (asks stop Between m (lines_until stop (bytes ++ more))) (shortages ++ later)
-  go_on bytes shortages stop more later = grind (arith, append_assoc, f.law)
-
   end_on : (bytes : List ℕ) (shortages : List Shortage) (stop : End) (more : List ℕ)
       → answered p (asks stop Between n (lines_until stop ((f.bytes ++ bytes) ++ more)))
       (f.shortages ++ shortages)
@@ -236,9 +223,7 @@ module _ (first : List Answered → Type 0) (prompt : Bool) (a b c : Ahead) (x y
     taken = takes_then a b c f.bytes g.bytes f.taken g.taken;
     wrote = grind (arith, Appends-trans, texts-append, f.wrote, g.wrote);
     notes = notes_both first next both join f.given g.given f.notes g.notes;
-    law = λ stop more later. go_on g.bytes g.shortages stop more later
-        ∙ ap (λ v. f.given ++ v) (g.law stop more later)
-        ∙ sym (append_assoc f.given g.given (answered s (asks stop Between k (lines_until stop more)) later));
+    law = λ stop more later. grind (arith, append_assoc, f.law, g.law);
   }
 
   pub answers_finishes : (next both : List Answered → Type 0)

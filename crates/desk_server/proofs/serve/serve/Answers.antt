@@ -15,17 +15,11 @@ returns-in-NoMemory-clause-answer g c =
     (c.refused-in-NoMemory.ensures.text c.args.desk.now) c.refused-in-NoMemory.ensures.goes_on
 
 pub returns-in-Take-clause-looked : goal.returns-in-Take-clause-looked
-returns-in-Take-clause-looked g c =
-    looked_taken g.O.Onlooker.sees c.args.request c.in-Take.format c.in-Take.text c.take_text.result
-    (g.P.Post.view c.args.post.now) c.args.desk.now c.take_text.new.desk c.args.onlooker.now c.in-Take.is
+returns-in-Take-clause-looked g c = looked_taken g.O.Onlooker.sees _ _ _ _ _ _ _ _ c.in-Take.is
 
 pub returns-in-Refuse-clause-looked : goal.returns-in-Refuse-clause-looked
-returns-in-Refuse-clause-looked g c =
-    looked_refused g.O.Onlooker.sees c.args.request c.in-Refuse.fault c.refused.result
-    (g.P.Post.view c.args.post.now) c.args.desk.now c.args.desk.now c.args.onlooker.now c.in-Refuse.is
+returns-in-Refuse-clause-looked g c = looked_refused g.O.Onlooker.sees _ _ _ _ _ _ _ c.in-Refuse.is
 
 pub returns-in-NoMemory-clause-looked : goal.returns-in-NoMemory-clause-looked
 returns-in-NoMemory-clause-looked g c =
-    looked_none g.O.Onlooker.sees c.refused-in-NoMemory.result
-    (g.P.Post.view c.args.post.now) c.args.desk.now c.args.desk.now c.args.onlooker.now c.args.request
-    c.refused-in-NoMemory.ensures.is
+    looked_none g.O.Onlooker.sees _ _ _ _ _ c.args.request c.refused-in-NoMemory.ensures.is
