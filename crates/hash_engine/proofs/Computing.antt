@@ -1,28 +1,109 @@
--- A result by nine results and four.
-use Rattle.std.proofs.Common.{◌≡◌, ℕ, suc, ◌+◌, ◌-◌, ◌<◌, ◌^◌, min, List, length, map, get_or, refl, sym, ◌∙◌, ap, subst, arith}
-use Rattle.std.specs.Prelude.{All, Contains}
+-- Several results, and a result by nine and by four.
+use Rattle.std.proofs.Common.{◌≡◌, ℕ, suc, ◌+◌, ◌<◌, ◌≤◌, List, length, get_or, sym, ◌∙◌, subst, arith, inl, inr, ◌-◌, ◌^◌, min, map, ap}
+use Rattle.std.proofs.Math.ListN.{set}
+use Rattle.std.specs.Prelude.{Contains, All}
+use Rattle.std.proofs.lemmas.Bool.{cases_eq}
+use Rattle.std.proofs.lemmas.List.{length-set, get_or_default, get_or-set_same, get_or-set_other}
+use Rattle.square_table.specs.Squares.{Table, IsNumber, AreNumbers, square_in, square_of, Grows, GrowsBy, IsSquareOf}
+use Rattle.square_table.proofs.Shared.Growth.{Grows-same, IsNumber-grows, square_in-grows}
+use Rattle.hash_life.specs.Puts.{Puts, nine_of, fours_of, IsBelow}
+use Rattle.hash_life.specs.Makes.{Makes}
+use Rattle.hash_engine.specs.declared.memo.Memo.{Memo}
+use Rattle.hash_engine.specs.Search.{CanSeek, CanSeekAll, sought, MakesAll, PutsAll, Keeps, Asks, IsCounted, IsFound, FirstAreFound, FindsForAll, CanCompute}
+use Rattle.hash_engine.proofs.Finding.{Keeps-made, Keeps-grown, Keeps-then, IsFound-then, made_of, adds_result, StandForAll-found, by_number, by_found}
+use Rattle.hash_engine.proofs.Putting.{Asks-then, Asks-grown, Asks-next, IsPut-grows}
 use Rattle.std.proofs.lemmas.List.Elements.{All-weaker}
-use Rattle.worlds.specs.Square.{Square, one, four}
-use Rattle.square_table.specs.Squares.{Table, Grows, GrowsBy, IsSquareOf}
+use Rattle.worlds.specs.Square.{Square, one}
 use Rattle.square_table.specs.Made.{IsMade}
 use Rattle.hash_life.specs.Result.{in_two, result}
-use Rattle.hash_life.specs.Puts.{nine_of, fours_of, Puts, IsBelow}
-use Rattle.hash_life.specs.Makes.{Makes}
 use Rattle.hash_life.proofs.Shared.InTwo.{OfParts, result-in_two, Puts-parts}
 use Rattle.hash_life.proofs.Shared.Made.{Makes-itself, Makes-parts, Makes-whole}
 use Rattle.hash_life.proofs.Shared.Put.{Puts-whole}
-use Rattle.hash_engine.specs.declared.memo.Memo.{Memo}
 use Rattle.hash_engine.specs.Standing.{StandsFor, StandForAll, IsReady}
 use Rattle.hash_engine.specs.Adding.{AddsOf, AddsFours, GiveAllOf, GiveFours}
 use Rattle.hash_engine.specs.Memo.{IsRight, IsPut}
 use Rattle.hash_engine.specs.Found.{IsSameRule}
-use Rattle.hash_engine.specs.Search.{CanSeekAll, CanCompute, sought, MakesAll, PutsAll, Keeps, Asks, IsCounted, IsFound, FindsForAll}
-use Rattle.hash_engine.proofs.Growth.{◌⟫◌}
-use Rattle.hash_engine.proofs.Standing.{StandsFor-itself, StandsFor-grows, quadrants, joined_later}
+use Rattle.hash_engine.proofs.Standing.{◌⟫◌, StandsFor-itself, StandsFor-grows, StandsFor-joined}
 use Rattle.hash_engine.proofs.Adding.{Adds-made}
-use Rattle.hash_engine.proofs.Keeping.{Keeps-made, Keeps-grown, Keeps-then}
-use Rattle.hash_engine.proofs.Putting.{Asks-grown, Asks-then, Asks-next, IsPut-grows}
-use Rattle.hash_engine.proofs.Finding.{made_of, adds_result, IsFound-then, StandForAll-found, by_number, by_square}
+
+-- the first i of the squares have their results, and the others are as they were
+pub record AreDone (next : List ℕ → ℕ) (k generations i : ℕ) (olds news : List ℕ) (t : Table) (old : Memo) (u : Table)
+    (new : Memo) : Type 0 where
+  pub count : length news ≡ length olds
+  pub found : FirstAreFound next (IsCounted next k generations t old) k generations i olds t u new news
+  pub rest : (j d : ℕ) → i ≤ j → get_or news j d ≡ get_or olds j d
+
+pub AreDone-all : {next : List ℕ → ℕ} {k generations i : ℕ} {olds news : List ℕ} {t u : Table} {old new : Memo} →
+    AreDone next k generations i olds news t old u new → length olds ≤ i → FindsForAll next k generations olds t old u new news
+AreDone-all are all = record { count = are.count; each = λ j d e below. are.found j d e (omega (arith, below, all)) }
+
+-- one square's turn
+module _ {next mid : List ℕ → ℕ} {c d k ahead i : ℕ} {olds news : List ℕ} {t u : Table} {first before : Memo}
+    (can : CanSeekAll next c t first k ahead olds) (below : i < length olds)
+    (keeps : Keeps next mid c d (MakesAll next k ahead olds t) t u before)
+    (done : AreDone next k ahead i olds news t first u before) where
+  numbered : IsNumber u.rows (suc (suc k)) (get_or news i 0)
+  numbered =
+      grind (arith, done.rest i 0, IsNumber-grows t u (suc (suc k)) (get_or olds i 0) keeps.grows, can.ready i 0)
+
+  -- its cells are what they were
+  same : (e : ℕ) → sought u k (get_or news i 0) ≡ sought t k (get_or olds i e)
+  same e =
+      let grown = square_in-grows t u (suc (suc k)) (get_or olds i e) keeps.grows in
+      grind (arith, done.rest i 0, get_or_default olds i 0 e below, grown, can.ready i e below)
+
+  pub turn_can : CanSeek mid d u before k ahead (get_or news i 0)
+  turn_can = grind (arith, numbered, same 0, can.ready i 0 below)
+
+  module _ {new : List ℕ → ℕ} {e : ℕ} {v : Table} {after : Memo}
+      (now : Keeps mid new d e (Makes mid k ahead (sought u k (get_or news i 0))) u v after) where
+    pub turn_keeps : Keeps next new c e (MakesAll next k ahead olds t) t v after
+    turn_keeps =
+        Keeps-then keeps
+        (λ all ways. let here = ways i 0 below in grind (arith, same 0, here)) now
+
+    module _ {a0 a1 a2 : ℕ} (asks : IsCounted next k ahead t first → Asks next (PutsAll next k ahead olds t) t first a0 u before a1)
+        (more : IsCounted mid k ahead u before → Asks mid (Puts mid k ahead (sought u k (get_or news i 0))) u before a1 v after a2) where
+      counted : IsCounted next k ahead t first → IsCounted next k ahead u before
+      counted is = grind arith
+
+      now_asks : IsCounted next k ahead t first → Asks next (Puts next k ahead (sought u k (get_or news i 0))) u before a1 v after a2
+      now_asks is =
+          subst (λ f. IsCounted f k ahead u before → Asks f (Puts f k ahead (sought u k (get_or news i 0))) u before a1 v after a2)
+          keeps.rule.meaning more (counted is)
+
+      pub turn_asks : IsCounted next k ahead t first → Asks next (PutsAll next k ahead olds t) t first a0 v after a2
+      turn_asks is =
+          Asks-then (asks is)
+          (λ all ways. subst (λ s. Puts next k ahead s (Contains all)) (sym (same 0)) (ways i 0 below)) (now_asks is)
+
+      pub turn_done : {r : ℕ} → IsFound mid (IsCounted mid k ahead u before) k ahead (sought u k (get_or news i 0)) v after r →
+          AreDone next k ahead (i + 1) olds (set news i r) t first v after
+      turn_done {r} found = record {
+        count = length-set news i r ∙ done.count;
+        found = λ j d e early. elim (cases_eq j i) [
+          | inl here ↦
+              let C = IsCounted next k ahead t first in
+              let is = subst (λ f. IsFound f (IsCounted f k ahead u before) k ahead (sought u k (get_or news i 0)) v after r)
+              keeps.rule.meaning found in
+              let last : IsFound next C k ahead (sought u k (get_or news i 0)) v after r = IsFound-then (Grows-same v) counted (λ also q put. put) is in
+              let at = get_or-set_same news i r e (omega (arith, below, done.count)) in
+              grind (arith, last, same d, at)
+          | inr other ↦
+              let kept = λ (is : IsCounted next k ahead t first). (now_asks is).kept in
+              let was = IsFound-then {more = after} now.grows (λ is. is) kept (done.found j d e (omega (arith, early, other))) in
+              grind (arith, was, get_or-set_other news i j r e)
+        ];
+        rest = λ j e above. grind (arith, get_or-set_other news i j r e, done.rest j e);
+      }
+
+-- the square that four results make
+four_results : (rows : List (List ℕ)) (k n : ℕ) (f g : Square → Square) {now : List (List ℕ)} {l : ℕ} {ends : List ℕ} →
+    StandForAll now l ends (map g (fours_of (map f (nine_of (square_in rows (suc k) n))))) →
+    AreNumbers now l ends × (square_of now l ends ≡ in_two f g (square_in rows (suc k) n))
+unfolding square_in
+four_results rows k n f g are =
+    grind (arith, are.count, are.each 0 0 (one 0), are.each 1 0 (one 0), are.each 2 0 (one 0), are.each 3 0 (one 0))
 
 -- a square s of level k + 2 with this number, above level 2
 module _ {next : List ℕ → ℕ} {c : ℕ} {t : Table} {memo : Memo} {k ahead number first half : ℕ}
@@ -65,7 +146,10 @@ module _ {next : List ℕ → ℕ} {c : ℕ} {t : Table} {memo : Memo} {k ahead 
       grind (arith, ready)
 
   -- the nine
-  module _ {a : Table} (ta : Grows t a) (adds : AddsOf nine_of t number a) where
+  module _ {a : Table} (adds : AddsOf nine_of t number a) where
+    ta : Grows t a
+    ta = (adds k s stands).grows
+
     pub nine_keeps : Keeps next next c c (Makes next k ahead s) t a memo
     nine_keeps = Keeps-made ta can.seek.right (λ all way.
         (adds k s stands).among all
@@ -88,9 +172,12 @@ module _ {next : List ℕ → ℕ} {c : ℕ} {t : Table} {memo : Memo} {k ahead 
 
         -- the four of these
         module _ {results : List ℕ} {e : Table} (one_finds : FindsForAll next (k - 1) first nine a memo b after results)
-            (be : Grows b e) (adds_four : AddsFours b results e) where
+            (adds_four : AddsFours b results e) where
           results_are : StandForAll b.rows (suc (k - 1)) results (map (result next (k - 1) first) (nine_of s))
           results_are = StandForAll-found nine_are one_finds
+
+          be : Grows b e
+          be = (adds_four (suc (k - 1)) _ results_are).grows
 
           pub fours_keeps : Keeps next mid c d (Makes next k ahead s) t e after
           fours_keeps = Keeps-grown first_keeps be (λ all way.
@@ -119,26 +206,18 @@ module _ {next : List ℕ → ℕ} {c : ℕ} {t : Table} {memo : Memo} {k ahead 
                 two_finds : FindsForAll next (k - 1) (ahead - first) four_numbers e after f last ends
                 two_finds = subst (λ h. FindsForAll h (k - 1) (ahead - first) four_numbers e after f last ends) fours_keeps.rule.meaning two
 
+                four_ends : AreNumbers f.rows (suc (k - 1)) ends × (square_of f.rows (suc (k - 1)) ends ≡ result next k ahead s)
+                four_ends =
+                    let four = four_results t.rows (suc k) number (result next (k - 1) first) (result next (k - 1) (ahead - first)) (StandForAll-found fours_are two_finds) in
+                    let in_parts = ap (λ m. in_two (result next (k - 1) m) (result next (k - 1) (ahead - m)) s) is_first in
+                    (four.0, four.1 ∙ in_parts ∙ sym (result-in_two next (k - 1) ahead s can.some) ∙ ap (λ l. result next l ahead s) is_k)
+
                 joined : (r : ℕ) → IsSquareOf g.rows ends r → StandsFor g.rows (suc k) r (result next k ahead s)
-                joined r is =
-                    let q = quadrants t.rows (suc k) number s stands in
-                    let of_nine = result next (k - 1) first in
-                    let of_four = result next (k - 1) (ahead - first) in
-                    let ends_are = subst (λ z. StandForAll f.rows (suc (k - 1)) ends (map of_four (fours_of (map of_nine (nine_of z)))))
-                    q.is (StandForAll-found fours_are two_finds) in
-                    let count : length ends ≡ 4 = ends_are.count in
-                    let by : result next (suc (k - 1)) ahead s ≡ in_two of_nine of_four (four q.a q.b q.c q.d) =
-                    result-in_two next (k - 1) ahead s can.some
-                    ∙ ap (λ m. in_two (result next (k - 1) m) (result next (k - 1) (ahead - m)) s) (sym is_first)
-                    ∙ ap (in_two of_nine of_four) q.is in
-                    let end = λ (q : ℕ) (low : q < 4). ends_are.each q 0 (one 0) (omega (arith, count, low)) in
-                    let whole = joined_later f g (suc (k - 1)) ends r _ _ _ _ fg is (end 0 (omega arith)) (end 1 (omega arith))
-                    (end 2 (omega arith)) (end 3 (omega arith)) in
-                    grind (arith, whole, by, is_k)
+                joined r is = let whole = StandsFor-joined four_ends.0 fg is (Grows-same g) in grind (arith, whole, four_ends.1, is_k)
 
                 pub joined_keeps : GrowsBy ends f g → Keeps next new c n (Makes next k ahead s) t g last
                 joined_keeps step =
-                    Keeps-grown last_keeps fg (adds_result next k ahead s refl (Adds-made f g ends k _ fg step joined))
+                    Keeps-grown last_keeps fg (adds_result next k ahead s four_ends.1 (Adds-made four_ends.0 fg step))
 
                 module _ {a0 a1 a2 : ℕ}
                     (one_asks : IsCounted next (k - 1) first a memo → Asks next (PutsAll next (k - 1) first nine a) a memo a0 b after a1)
@@ -170,7 +249,7 @@ module _ {next : List ℕ → ℕ} {c : ℕ} {t : Table} {memo : Memo} {k ahead 
                       Asks h (PutsAll h (k - 1) (ahead - first) four_numbers e) e after a1 f last a2)
                       fours_keeps.rule.meaning more (counts_fours is)
 
-                  pub joined_asks : IsCounted next k ahead t memo → Asks next (Puts next k ahead s) t memo a0 g last a2
+                  joined_asks : IsCounted next k ahead t memo → Asks next (Puts next k ahead s) t memo a0 g last a2
                   joined_asks is =
                       let last_asks = Asks-then (asks_fours is)
                       (λ all way. by_number fours_are (λ q. Puts next (k - 1) (ahead - first) q (Contains all)) (puts_parts (Contains all) way).1)
@@ -178,39 +257,23 @@ module _ {next : List ℕ → ℕ} {c : ℕ} {t : Table} {memo : Memo} {k ahead 
                       Asks-next last_asks (Asks-grown fg last_keeps.right last_asks.has)
 
                   -- what is found is there in the end
-                  nine_found : (j d : ℕ) → j < length nine →
-                      IsFound next (IsCounted next k ahead t memo) (k - 1) first (sought a (k - 1) (get_or nine j d)) g last (get_or results j d)
-                  nine_found j d below =
-                      let fours_then = λ (is : IsCounted next k ahead t memo) (q : Square) (put : IsPut b.rows after.full.items q).
-                      (asks_last is).kept q (IsPut-grows b e after.full.items q be put) in
-                      IsFound-then (be ⟫ two_keeps.grows ⟫ fg) counts_nine
-                      (λ is q put. IsPut-grows f g last.full.items q fg (fours_then is q put)) (one_finds.each j d d below)
-
-                  fours_found : (j d : ℕ) → j < length four_numbers →
-                      IsFound next (IsCounted next k ahead t memo) (k - 1) (ahead - first) (sought e (k - 1) (get_or four_numbers j d)) g last (get_or ends j d)
-                  fours_found j d below =
-                      IsFound-then fg counts_fours (λ is q put. IsPut-grows f g last.full.items q fg put) (two_finds.each j d d below)
-
-                  pub joined_finds : (r : ℕ) → IsSquareOf g.rows ends r →
-                      IsFound next (IsCounted next k ahead t memo) k ahead s g last r
+                  joined_finds : (r : ℕ) → IsSquareOf g.rows ends r → IsFound next (IsCounted next k ahead t memo) k ahead s g last r
                   joined_finds r is =
-                      let tg = first_keeps.grows ⟫ be ⟫ two_keeps.grows ⟫ fg in
-                      let whole : IsMade g.rows s = made_of (StandsFor-grows t g (suc (suc k)) number s tg stands) in
-                      let P = IsPut g.rows last.full.items in
-                      let M = IsMade g.rows in
-                      let at = subst (λ l. M (result next l ahead s)) (sym is_k) (made_of (joined r is)) in
-                      let nine_made = by_square nine_are (λ q. Makes next (k - 1) first q M) (λ j d below. (nine_found j d below).made) in
-                      let fours_made =
-                      by_square fours_are (λ q. Makes next (k - 1) (ahead - first) q M) (λ j d below. (fours_found j d below).made) in
+                      let kept = λ (q : Square) (put : IsPut f.rows last.full.items q). IsPut-grows f g last.full.items q fg put in
+                      let nine_found = by_found a results {memo = last} nine_are (λ j d below. IsFound-then {more = last} (be ⟫ two_keeps.grows ⟫ fg) counts_nine
+                      (λ is q put. kept q ((asks_last is).kept q (IsPut-grows b e after.full.items q be put))) (one_finds.each j d d below)) in
+                      let four_found = by_found e ends {memo = last} fours_are (λ j d below. IsFound-then {more = last} fg counts_fours (λ is q put. kept q put) (two_finds.each j d d below)) in
+                      let whole = made_of (StandsFor-grows t g (suc (suc k)) number s (last_keeps.grows ⟫ fg) stands) in
+                      let at = subst (λ l. IsMade g.rows (result next l ahead s)) (sym is_k) (made_of (joined r is)) in
                       record {
                         square = joined r is;
-                        made =
-                            subst (λ l. Makes next l ahead s M) is_k
-                            (Makes-whole next (k - 1) ahead first s M can.some is_first whole at (nine_made, fours_made));
-                        put = λ is.
-                            let nine_put = by_square nine_are (λ q. Puts next (k - 1) first q P) (λ j d below. (nine_found j d below).put is) in
-                            let fours_put =
-                            by_square fours_are (λ q. Puts next (k - 1) (ahead - first) q P) (λ j d below. (fours_found j d below).put is) in
-                            subst (λ l. Puts next l ahead s P) is_k
-                            (Puts-whole next (k - 1) ahead first s P can.some is_first (nine_put, fours_put));
+                        made = subst (λ l. Makes next l ahead s (IsMade g.rows)) is_k
+                            (Makes-whole next (k - 1) ahead first s (IsMade g.rows) can.some is_first whole at (nine_found.0, four_found.0));
+                        put = λ is. subst (λ l. Puts next l ahead s (IsPut g.rows last.full.items)) is_k
+                            (Puts-whole next (k - 1) ahead first s (IsPut g.rows last.full.items) can.some is_first (nine_found.1 is, four_found.1 is));
                       }
+
+                  pub joined_all : {r : ℕ} → GrowsBy ends f g → IsSquareOf g.rows ends r → Keeps next new c n (Makes next k ahead s) t g last ×
+                      IsFound next (IsCounted next k ahead t memo) k ahead s g last r ×
+                      (IsCounted next k ahead t memo → Asks next (Puts next k ahead s) t memo a0 g last a2)
+                  joined_all {r} step is = (joined_keeps step, joined_finds r is, joined_asks)

@@ -1,13 +1,8 @@
-pub mod Growth
 pub mod Standing
-pub mod Asked
 pub mod Picked
 pub mod Shared
 pub mod Adding
-pub mod Keeping
 pub mod Putting
 pub mod Finding
-pub mod Turns
 pub mod Computing
-pub mod Root
 pub mod Blocks

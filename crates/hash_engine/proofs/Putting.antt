@@ -67,12 +67,9 @@ recalled_put next count rows full known k generations n r asked high some is are
 -- the table alone grew
 pub Asks-grown : {next : List ℕ → ℕ} {Way : (Square → Type 0) → Type 0} {t u : Table} {memo : Memo} {asks : ℕ} →
     Grows t u → IsRight next t.rows memo → HasPut next t.rows memo → Asks next Way t memo asks u memo asks
-Asks-grown {next} {Way} {t} {u} {memo} {asks} grows right has = record {
-  four = ap (λ m. asks + 4 * m) (sym (count-grows next t u memo grows right));
-  has = HasPut-grows next t u memo grows right has;
-  kept = λ s is. IsPut-grows t u memo.full.items s grows is;
-  among = λ all way only s is. only s (IsPut-before next t u memo s grows right is);
-}
+Asks-grown {next} {Way} {t} {u} {memo} {asks} grows right has =
+    let four = count-grows next t u memo grows right in
+    grind (arith, four, HasPut-grows next t u memo grows right has, IsPut-grows t u memo.full.items, IsPut-before next t u memo)
 
 -- it went on with what is on the way
 pub Asks-then : {next : List ℕ → ℕ} {Way Rest : (Square → Type 0) → Type 0} {t u v : Table} {old mid new : Memo} {a b c : ℕ} →
@@ -90,35 +87,31 @@ module _ (u : Table) {k generations n r : ℕ} {old new : Memo} (number : IsNumb
   place : first_number + (n - first_number) ≡ n
   place = omega (arith, above u.rows (suc k) n number)
 
-  known_still : (i : ℕ) → 0 < get_or old.full.items i 0 → 0 < get_or new.full.items i 0
-  known_still i known = grind (arith, cases_eq i (n - first_number), cases_eq generations (2 ^ k), others)
-
   pub put_still : (s : Square) → IsPut u.rows old.full.items s → IsPut u.rows new.full.items s
   put_still s put =
-      record { place = put.place; numbered = put.numbered; known = known_still put.place put.known; square = put.square }
-
-  -- which results are the same, and which is the one
-  which : (count : ℕ → ℕ) (known more : List ℕ) →
-      (generations ≡ count k → (j : ℕ) → j ≢ n - first_number → get_or more j 0 ≡ get_or known j 0) →
-      (generations ≢ count k → more ≡ known) → (i : ℕ) →
-      (get_or more i 0 ≡ get_or known i 0) ⊎ ((i ≡ n - first_number) × (generations ≡ count k))
-  which count known more noted same i = grind (arith, cases_eq generations (count k), cases_eq i (n - first_number))
+      let known : 0 < get_or new.full.items put.place 0 =
+      grind (arith, put.known, cases_eq put.place (n - first_number), cases_eq generations (2 ^ k), others) in
+      record { place = put.place; numbered = put.numbered; known = known; square = put.square }
 
   module _ (next : List ℕ → ℕ) (way : Puts next k generations (sought u k n) (IsPut u.rows new.full.items)) where
+    -- each result is the same, or the one
     ArePut-noted : (count : ℕ → ℕ) (known more : List ℕ) →
-        ((i : ℕ) → (get_or more i 0 ≡ get_or known i 0) ⊎ ((i ≡ n - first_number) × (generations ≡ count k))) →
+        (generations ≡ count k → (j : ℕ) → j ≢ n - first_number → get_or more j 0 ≡ get_or known j 0) →
+        (generations ≢ count k → more ≡ known) →
         ArePut next count u.rows old.full.items known → ArePut next count u.rows new.full.items more
-    ArePut-noted count known more either are i l there at few =
+    ArePut-noted count known more noted same are i l there at few =
+        let either : (get_or more i 0 ≡ get_or known i 0) ⊎ ((i ≡ n - first_number) × (generations ≡ count k)) =
+        grind (arith, cases_eq generations (count k), cases_eq i (n - first_number)) in
         let weaker = Puts-weaker next l (count l) (sought u l (first_number + i)) (IsPut u.rows old.full.items) in
         let level = one_level u.rows (suc (suc k)) (suc (suc l)) in
-        grind (arith, either i, are i l, put_still, place, level, weaker (IsPut u.rows new.full.items))
+        grind (arith, either, are i l, put_still, place, level, weaker (IsPut u.rows new.full.items))
 
     HasPut-noted : HasPut next u.rows old → HasPut next u.rows new
     HasPut-noted has = record {
-      full = ArePut-noted (λ l. 2 ^ l) _ _ (which (λ l. 2 ^ l) _ _ (λ by. (is.full by).others) is.other) has.full;
+      full = ArePut-noted (λ l. 2 ^ l) _ _ (λ by. (is.full by).others) is.other has.full;
       part =
           subst (λ (cs : List ℕ). ArePut next (λ l. get_or cs l 0) u.rows new.full.items new.part.items) (sym is.counts)
-          (ArePut-noted (λ l. get_or old.counts l 0) _ _ (which (λ l. get_or old.counts l 0) _ _ is.part is.rest) has.part);
+          (ArePut-noted (λ l. get_or old.counts l 0) _ _ is.part is.rest has.part);
     }
 
     pub Asks-noted : {Way : (Square → Type 0) → Type 0} {a b : ℕ} →
@@ -159,35 +152,32 @@ Asks-higher {next} {Way} {k} {generations} {n} {r} {a} {u} {old} {new} high numb
     (λ all on_way two. absurd (omega (arith, high, one_level u.rows 2 (suc (suc k)) n two number)))
 
 -- a square of 4 by 4 cells is put to the rule
-pub IsPut-noted : (t u : Table) {generations n r : ℕ} {old new : Memo} → 0 < generations → generations ≤ 2 ^ 0 → Grows t u →
-    IsNumber t.rows 2 n → IsRemembered 0 generations n r old new → 0 < r → IsPut u.rows new.full.items (sought t 0 n)
-IsPut-noted t u {generations} {n} {r} {old} {new} one few grows was is some =
-    let number = IsNumber-grows t u 2 n grows was in
-    let place : n ≡ first_number + (n - first_number) = omega (arith, above u.rows 1 n number) in
-    let noted = (is.full (omega (arith, one, few))).here in
-    record {
-      place = n - first_number;
-      numbered = subst (IsNumber u.rows 2) place number;
-      known = omega (arith, noted, some);
-      square = ap (square_in u.rows 2) (sym place) ∙ square_in-grows t u 2 n grows was;
-    }
+module _ {t u : Table} {generations n r : ℕ} {old new : Memo} (one : 0 < generations) (few : generations ≤ 2 ^ 0) (grows : Grows t u)
+    (was : IsNumber t.rows 2 n) (is : IsRemembered 0 generations n r old new) (some : 0 < r) where
+  same : square_in u.rows 2 n ≡ sought t 0 n
+  same = square_in-grows t u 2 n grows was
 
-pub Asks-put : {next : List ℕ → ℕ} {generations n r a b : ℕ} {t u : Table} {old new : Memo} → 0 < generations → generations ≤ 2 ^ 0 →
-    Grows t u → IsNumber t.rows 2 n → IsRight next t.rows old → HasPut next t.rows old →
-    get_or old.full.items (n - first_number) 0 ≡ 0 → IsRemembered 0 generations n r old new → 0 < r → b ≡ a + 4 →
-    Asks next (Puts next 0 generations (sought t 0 n)) t old a u new b
-unfolding places_put
-Asks-put {next} {generations} {n} {r} {a} {b} {t} {u} {old} {new} one few grows was right has anew is some four =
-    let same = sym (square_in-grows t u 2 n grows was) in
-    let number = IsNumber-grows t u 2 n grows was in
-    let place : n ≡ first_number + (n - first_number) = omega (arith, above u.rows 1 n number) in
-    let known = (is.full (omega (arith, one, few))).here in
-    let more = picked-more (is_put u.rows old) (is_put u.rows new) (n - first_number) (length u.rows)
-    (omega (arith, place, within u.rows 1 n number)) (is_put-none u.rows old (n - first_number) anew)
-    (is_put-two u.rows new (n - first_number) (subst (IsNumber u.rows 2) place number) (omega (arith, known, some)))
-    (λ i apart. sym (is_put-agrees u.rows old new i (others 0 generations n r old new i is apart))) in
-    let put = IsPut-noted t u one few grows was is some in
-    let way = Puts-last next generations (sought u 0 n) (IsPut u.rows new.full.items) (subst (IsPut u.rows new.full.items) same put) in
-    Asks-next (Asks-grown grows right has)
-    (Asks-noted u number is some next way (omega (arith, four, more)) (HasPut-grows next t u old grows right has)
-    (λ all on_way two. subst (Contains all) same (Puts-itself next generations (sought t 0 n) (Contains all) one on_way)))
+  at : n ≡ first_number + (n - first_number)
+  at = let number = IsNumber-grows t u 2 n grows was in omega (arith, above u.rows 1 n number)
+
+  numbered : IsNumber u.rows 2 (first_number + (n - first_number))
+  numbered = subst (IsNumber u.rows 2) at (IsNumber-grows t u 2 n grows was)
+
+  known : 0 < get_or new.full.items (n - first_number) 0
+  known = let noted = (is.full (omega (arith, one, few))).here in omega (arith, noted, some)
+
+  pub IsPut-noted : IsPut u.rows new.full.items (sought t 0 n)
+  IsPut-noted = record { place = n - first_number; numbered = numbered; known = known; square = ap (square_in u.rows 2) (sym at) ∙ same }
+
+  pub Asks-put : {next : List ℕ → ℕ} {a b : ℕ} → IsRight next t.rows old → HasPut next t.rows old →
+      get_or old.full.items (n - first_number) 0 ≡ 0 → b ≡ a + 4 → Asks next (Puts next 0 generations (sought t 0 n)) t old a u new b
+  unfolding places_put
+  Asks-put {next} {a} {b} right has anew four =
+      let more = picked-more (is_put u.rows old) (is_put u.rows new) (n - first_number) (length u.rows)
+      (omega (arith, within u.rows 1 _ numbered)) (is_put-none u.rows old (n - first_number) anew)
+      (is_put-two u.rows new (n - first_number) numbered known)
+      (λ i apart. sym (is_put-agrees u.rows old new i (others 0 generations n r old new i is apart))) in
+      let way = Puts-last next generations (sought u 0 n) (IsPut u.rows new.full.items) (subst (IsPut u.rows new.full.items) (sym same) IsPut-noted) in
+      Asks-next (Asks-grown grows right has)
+      (Asks-noted u (IsNumber-grows t u 2 n grows was) is some next way (omega (arith, four, more)) (HasPut-grows next t u old grows right has)
+      (λ all on_way two. subst (Contains all) (sym same) (Puts-itself next generations (sought t 0 n) (Contains all) one on_way)))

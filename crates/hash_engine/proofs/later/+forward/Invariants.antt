@@ -1,6 +1,6 @@
 use Rattle.std.proofs.Common.{◌≡◌, ◌+◌, ◌*◌}
 use Rattle.hash_engine.specs.Search.{KeepsForAll, AsksForAll}
-use Rattle.hash_engine.proofs.Turns.{AreDone}
+use Rattle.hash_engine.proofs.Computing.{AreDone}
 use Rattle.hash_engine.proofs.later.+forward.Given as goal
 
 abbrev pub decreases-all_forward : goal.decreases-all_forward

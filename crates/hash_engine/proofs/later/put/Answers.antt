@@ -2,36 +2,28 @@ use Rattle.std.proofs.Common.{ℕ, ◌<◌, List, [], ◌∷◌, sym, arith, rul
 use Rattle.square_table.specs.Squares.{Table}
 use Rattle.square_table.specs.Made.{Adds}
 use Rattle.hash_life.specs.Result.{later}
-use Rattle.hash_life.specs.Puts.{IsBelow}
 use Rattle.hash_life.specs.Makes.{Makes}
 use Rattle.hash_life.proofs.Shared.InTwo.{Puts-itself, result-later}
 use Rattle.hash_engine.specs.Found.{IsSameRule}
 use Rattle.hash_engine.specs.Memo.{IsRight}
-use Rattle.hash_engine.specs.Search.{sought, Keeps}
+use Rattle.hash_engine.specs.Search.{sought, Keeps, IsCounted}
 use Rattle.hash_engine.specs.declared.memo.Memo.{Memo}
-use Rattle.hash_engine.proofs.Standing.{above, StandsFor-itself}
+use Rattle.hash_engine.proofs.Standing.{above}
 use Rattle.hash_engine.proofs.Shared.Memos.{IsRight-grows}
-use Rattle.hash_engine.proofs.Keeping.{Keeps-noted}
-use Rattle.hash_engine.proofs.Finding.{adds_result, IsFound-put, IsResult-found}
+use Rattle.hash_engine.proofs.Finding.{Keeps-noted, adds_result, IsFound-put, IsResult-found}
 use Rattle.hash_engine.proofs.Putting.{IsPut-noted, Asks-put}
 use Rattle.hash_engine.proofs.later.put.Goals as goal
 
 pub later-requires : goal.later-requires
-later-requires g c = record {
-  numbered = c.requires.ready.numbered;
-  below = Puts-itself _ _ _ (IsBelow (g.Q.Ask.state_count c.args.rule.now)) c.requires.some c.requires.ready.below;
-}
+later-requires g c = search (rules, Puts-itself)
 
 -- the rule was asked, and the table has the square that came of it
 asked : (n : ℕ) {next new : List ℕ → ℕ} {c d ahead : ℕ} {t u : Table} {memo : Memo} → 0 < ahead → IsSameRule next new c d →
     Adds (later next (sought t 0 n) ∷ []) t u → IsRight next t.rows memo →
     Keeps next new c d (Makes next 0 ahead (sought t 0 n)) t u memo
-asked n {next} {new} {c} {d} {ahead} {t} {u} {memo} some rule adds right = record {
-  rule = rule;
-  grows = adds.grows;
-  right = IsRight-grows next t u memo adds.grows right;
-  adds = adds_result next 0 ahead (sought t 0 n) (sym (result-later next ahead (sought t 0 n) some)) adds;
-}
+asked n {next} {new} {c} {d} {ahead} {t} {u} {memo} some rule adds right =
+    let made = adds_result next 0 ahead (sought t 0 n) (sym (result-later next ahead (sought t 0 n) some)) adds in
+    grind (arith, made, adds.grows, IsRight-grows next t u memo adds.grows right)
 
 pub returns-in_err-made-clause-keeps : goal.returns-in_err-made-clause-keeps
 returns-in_err-made-clause-keeps g c = search (rules, asked)
@@ -43,9 +35,8 @@ pub returns-in_err-remember-clause-keeps : goal.returns-in_err-remember-clause-k
 returns-in_err-remember-clause-keeps g c =
     let made = c.in_ok-made.ensures in
     let numbered = c.requires.ready.numbered in
-    let stands = StandsFor-itself c.args.table.now.rows 2 c.args.number numbered in
     let keeps = asked c.args.number c.requires.some made.rule made.adds c.requires.anew.right in
-    let found = IsFound-put {Counted = ⊥} {memo = c.args.memo.now} c.requires.some keeps.grows stands made.square (λ no. absurd no) in
+    let found = IsFound-put c.args.number {Counted = ⊥} {memo = c.args.memo.now} c.requires.some keeps.grows numbered made.square (λ no. absurd no) in
     Keeps-noted c.remember.new.self keeps (c.remember.ensures.right _ _ keeps.right (IsResult-found keeps.grows numbered found))
 
 pub returns : goal.returns
@@ -53,16 +44,16 @@ returns g c =
     let made = c.in_ok-made.ensures in
     let some = c.requires.some in
     let numbered = c.requires.ready.numbered in
-    let stands = StandsFor-itself c.args.table.now.rows 2 c.args.number numbered in
     let keeps = asked c.args.number some made.rule made.adds c.requires.anew.right in
     let noted = c.in_ok-remember.ensures.noted in
     let positive : 0 < c.in_ok-made.made = omega (arith, above c.later.new.table.rows 0 c.in_ok-made.made made.square.numbered) in
-    let found = IsFound-put {Counted = ⊥} {memo = c.args.memo.now} some keeps.grows stands made.square (λ no. absurd no) in
+    let found = IsFound-put c.args.number some keeps.grows numbered made.square
+    (λ (is : IsCounted (g.Q.Ask.meaning c.args.rule.now) 0 c.args.ahead c.args.table.now c.args.memo.now). IsPut-noted some is.few keeps.grows numbered noted positive) in
     record {
       keeps = Keeps-noted c.remember.new.self keeps (c.remember.ensures.right _ _ keeps.right (IsResult-found keeps.grows numbered found));
-      found = IsFound-put some keeps.grows stands made.square (λ is. IsPut-noted _ _ some is.few keeps.grows numbered noted positive);
+      found = found;
       asks = λ is.
           let anew = c.requires.anew.anew (let few = is.few in omega (arith, some, few)) in
-          Asks-put some is.few keeps.grows numbered c.requires.anew.right is.has anew noted positive made.asks;
+          Asks-put some is.few keeps.grows numbered noted positive c.requires.anew.right is.has anew made.asks;
       full = search rules;
     }

@@ -2,7 +2,7 @@ use Rattle.std.proofs.Common.{◌≡◌, suc, ◌-◌, ◌^◌, ◌≤◌, ◌�
 use Rattle.worlds.specs.Square.{square_at}
 use Rattle.square_table.specs.Squares.{level_of, square_in, cells_of}
 use Rattle.hash_engine.specs.Search.{IsCounted}
-use Rattle.hash_engine.proofs.Root.{IsReady-root}
+use Rattle.hash_engine.proofs.Standing.{IsReady-root}
 use Rattle.hash_engine.proofs.Blocks.{put_blocks, asked_once}
 use Rattle.hash_engine.proofs.later.result.Goals as goal
 

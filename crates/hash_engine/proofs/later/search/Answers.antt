@@ -1,6 +1,6 @@
 use Rattle.std.proofs.Common.{◌≡◌, suc, ◌-◌, arith, rules}
 use Rattle.square_table.specs.Squares.{level_of}
-use Rattle.hash_engine.proofs.Root.{IsReady-root}
+use Rattle.hash_engine.proofs.Standing.{IsReady-root}
 use Rattle.hash_engine.proofs.later.search.Goals as goal
 
 pub forward-requires : goal.forward-requires

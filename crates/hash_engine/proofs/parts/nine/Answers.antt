@@ -1,19 +1,17 @@
-use Rattle.std.proofs.Common.{refl, inl, rules, ℕ, List}
+use Rattle.std.proofs.Common.{suc, sym, ap, subst, inl, refl, rules, ℕ, List}
+use Rattle.square_table.specs.Squares.{GrowsBy}
 use Rattle.square_table.proofs.Shared.Growth.{Grows-same}
-use Rattle.hash_engine.proofs.Growth.{◌⟫◌}
-use Rattle.hash_engine.proofs.Standing.{StandsFor-between, StandsFor-amid, StandsFor-middle, StandForAll-nine_of}
+use Rattle.hash_life.specs.Puts.{nine_of}
+use Rattle.hash_engine.specs.Standing.{StandForAll}
+use Rattle.hash_engine.proofs.Standing.{◌⟫◌, StandsFor-grows, StandsFor-joined, sixteen, StandForAll-nil, StandForAll-cons}
 use Rattle.hash_engine.proofs.Adding.{Adds-nine}
 use Rattle.hash_engine.proofs.parts.nine.Goals as goal
-use Rattle.square_table.specs.Squares.{GrowsBy}
 
 pub returns-clause-squares : goal.returns-clause-squares
 returns-clause-squares c = λ k s whole.
+    let q = sixteen whole c.quadrants.ensures c.quadrants-2.ensures c.quadrants-3.ensures c.quadrants-4.ensures c.quadrants-5.ensures in
     let t = c.args.table.now in
-    let ks = c.quadrants.ensures in
-    let ws = c.quadrants-2.ensures in
-    let xs = c.quadrants-3.ensures in
-    let ys = c.quadrants-4.ensures in
-    let zs = c.quadrants-5.ensures in
+    let all = c.join_guessed-5.new.self in
     let north = c.in_ok-north.ensures in
     let west = c.in_ok-west.ensures in
     let centre = c.in_ok-centre.ensures in
@@ -23,15 +21,16 @@ returns-clause-squares c = λ k s whole.
     let three = two ⟫ centre.grows in
     let four = three ⟫ east.grows in
     let five = four ⟫ south.grows in
-    let more = east.grows ⟫ south.grows in
-    StandForAll-nine_of t k c.args.number _ _ _ _ _ c.join_guessed.new.self c.join_guessed-2.new.self c.join_guessed-3.new.self
-    c.join_guessed-4.new.self c.join_guessed-5.new.self c.quadrants.result s whole ks five
-    (west.grows ⟫ centre.grows ⟫ more) (centre.grows ⟫ more) more south.grows
-    (λ a b. StandsFor-between t _ k _ _ _ _ _ a b ws xs north.grows north.square)
-    (λ a b. StandsFor-amid t _ k _ _ _ _ _ a b ws ys two west.square)
-    (StandsFor-middle t _ k c.args.number _ _ _ _ _ _ s ks ws xs ys zs three centre.square whole)
-    (λ a b. StandsFor-amid t _ k _ _ _ _ _ a b xs zs four east.square)
-    (λ a b. StandsFor-between t _ k _ _ _ _ _ a b ys zs five south.square)
+    let last = east.grows ⟫ south.grows in
+    let later = centre.grows ⟫ last in
+    let most = west.grows ⟫ later in
+    subst (StandForAll all.rows (suc k) _) (sym (ap nine_of q.is))
+    (StandForAll-cons (StandsFor-grows t all _ _ _ five q.a) (StandForAll-cons (StandsFor-joined q.north north.grows north.square most)
+    (StandForAll-cons (StandsFor-grows t all _ _ _ five q.b) (StandForAll-cons (StandsFor-joined q.west two west.square later)
+    (StandForAll-cons (StandsFor-joined q.centre three centre.square last)
+    (StandForAll-cons (StandsFor-joined q.east four east.square south.grows) (StandForAll-cons (StandsFor-grows t all _ _ _ five q.c)
+    (StandForAll-cons (StandsFor-joined q.south five south.square (Grows-same all)) (StandForAll-cons (StandsFor-grows t all _ _ _ five q.d)
+    StandForAll-nil)))))))))
 
 pub returns-in_err-west-clause-adds : goal.returns-in_err-west-clause-adds
 returns-in_err-west-clause-adds c = λ k s whole.
