@@ -90,10 +90,8 @@ module _ (number : ℕ) {next : List ℕ → ℕ} {k generations base a b : ℕ}
             absurd (omega (arith, equal, below)));
         all = Puts-weaker next k generations _ (IsPut u.rows new.full.items) (Contains blocks) there puts;
         only = λ those way.
-            let never = λ (s : Square) (is : IsPut t.rows old.full.items s).
-            let no = ap (λ known. get_or known is.place 0) none in absurd (omega (arith, no, is.known)) in
             All-picked (Contains those) (block u.rows) (is_put u.rows new) (length u.rows) (λ i below is.
-            asks.among those way (λ s put. never s put) (block u.rows i)
+            asks.among those way (λ s was. let no = ap (λ known. get_or known was.place 0) none in absurd (omega (arith, no, was.known))) (block u.rows i)
             (record { place = i; numbered = IsNumber-put next u.rows new i right is; known = known-put u.rows new i is; square = refl }));
       }
 

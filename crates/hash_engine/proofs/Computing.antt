@@ -4,14 +4,13 @@ use Rattle.std.proofs.Math.ListN.{set}
 use Rattle.std.specs.Prelude.{Contains, All}
 use Rattle.std.proofs.lemmas.Bool.{cases_eq}
 use Rattle.std.proofs.lemmas.List.{length-set, get_or_default, get_or-set_same, get_or-set_other}
-use Rattle.square_table.specs.Squares.{Table, IsNumber, AreNumbers, square_in, square_of, Grows, GrowsBy, IsSquareOf}
+use Rattle.square_table.specs.Squares.{Table, AreNumbers, square_in, square_of, Grows, GrowsBy, IsSquareOf}
 use Rattle.square_table.proofs.Shared.Growth.{Grows-same, IsNumber-grows, square_in-grows}
 use Rattle.hash_life.specs.Puts.{Puts, nine_of, fours_of, IsBelow}
 use Rattle.hash_life.specs.Makes.{Makes}
 use Rattle.hash_engine.specs.declared.memo.Memo.{Memo}
 use Rattle.hash_engine.specs.Search.{CanSeek, CanSeekAll, sought, MakesAll, PutsAll, Keeps, Asks, IsCounted, IsFound, FirstAreFound, FindsForAll, CanCompute}
-use Rattle.hash_engine.proofs.Finding.{Keeps-made, Keeps-grown, Keeps-then, IsFound-then, made_of, adds_result, StandForAll-found, by_number, by_found}
-use Rattle.hash_engine.proofs.Putting.{Asks-then, Asks-grown, Asks-next, IsPut-grows}
+use Rattle.hash_engine.proofs.Finding.{HasPut-grows, Keeps-made, Keeps-grown, Keeps-then, IsFound-then, made_of, adds_result, StandForAll-found, by_number, by_found, Asks-then, Asks-grown, Asks-next, IsPut-grows}
 use Rattle.std.proofs.lemmas.List.Elements.{All-weaker}
 use Rattle.worlds.specs.Square.{Square, one}
 use Rattle.square_table.specs.Made.{IsMade}
@@ -19,12 +18,11 @@ use Rattle.hash_life.specs.Result.{in_two, result}
 use Rattle.hash_life.proofs.Shared.InTwo.{OfParts, result-in_two, Puts-parts}
 use Rattle.hash_life.proofs.Shared.Made.{Makes-itself, Makes-parts, Makes-whole}
 use Rattle.hash_life.proofs.Shared.Put.{Puts-whole}
-use Rattle.hash_engine.specs.Standing.{StandsFor, StandForAll, IsReady}
+use Rattle.hash_engine.specs.Standing.{StandsFor, StandForAll}
 use Rattle.hash_engine.specs.Adding.{AddsOf, AddsFours, GiveAllOf, GiveFours}
 use Rattle.hash_engine.specs.Memo.{IsRight, IsPut}
 use Rattle.hash_engine.specs.Found.{IsSameRule}
-use Rattle.hash_engine.proofs.Standing.{◌⟫◌, StandsFor-itself, StandsFor-grows, StandsFor-joined}
-use Rattle.hash_engine.proofs.Adding.{Adds-made}
+use Rattle.hash_engine.proofs.Standing.{◌⟫◌, StandsFor-itself, StandsFor-grows, StandsFor-joined, Adds-made}
 
 -- the first i of the squares have their results, and the others are as they were
 pub record AreDone (next : List ℕ → ℕ) (k generations i : ℕ) (olds news : List ℕ) (t : Table) (old : Memo) (u : Table)
@@ -42,10 +40,6 @@ module _ {next mid : List ℕ → ℕ} {c d k ahead i : ℕ} {olds news : List �
     (can : CanSeekAll next c t first k ahead olds) (below : i < length olds)
     (keeps : Keeps next mid c d (MakesAll next k ahead olds t) t u before)
     (done : AreDone next k ahead i olds news t first u before) where
-  numbered : IsNumber u.rows (suc (suc k)) (get_or news i 0)
-  numbered =
-      grind (arith, done.rest i 0, IsNumber-grows t u (suc (suc k)) (get_or olds i 0) keeps.grows, can.ready i 0)
-
   -- its cells are what they were
   same : (e : ℕ) → sought u k (get_or news i 0) ≡ sought t k (get_or olds i e)
   same e =
@@ -53,14 +47,12 @@ module _ {next mid : List ℕ → ℕ} {c d k ahead i : ℕ} {olds news : List �
       grind (arith, done.rest i 0, get_or_default olds i 0 e below, grown, can.ready i e below)
 
   pub turn_can : CanSeek mid d u before k ahead (get_or news i 0)
-  turn_can = grind (arith, numbered, same 0, can.ready i 0 below)
+  turn_can = grind (arith, done.rest i 0, IsNumber-grows t u (suc (suc k)) (get_or olds i 0) keeps.grows, same 0, can.ready i 0 below)
 
   module _ {new : List ℕ → ℕ} {e : ℕ} {v : Table} {after : Memo}
       (now : Keeps mid new d e (Makes mid k ahead (sought u k (get_or news i 0))) u v after) where
     pub turn_keeps : Keeps next new c e (MakesAll next k ahead olds t) t v after
-    turn_keeps =
-        Keeps-then keeps
-        (λ all ways. let here = ways i 0 below in grind (arith, same 0, here)) now
+    turn_keeps = Keeps-then keeps (λ all ways. let here = ways i 0 below in grind (arith, same 0, here)) now
 
     module _ {a0 a1 a2 : ℕ} (asks : IsCounted next k ahead t first → Asks next (PutsAll next k ahead olds t) t first a0 u before a1)
         (more : IsCounted mid k ahead u before → Asks mid (Puts mid k ahead (sought u k (get_or news i 0))) u before a1 v after a2) where
@@ -68,14 +60,10 @@ module _ {next mid : List ℕ → ℕ} {c d k ahead i : ℕ} {olds news : List �
       counted is = grind arith
 
       now_asks : IsCounted next k ahead t first → Asks next (Puts next k ahead (sought u k (get_or news i 0))) u before a1 v after a2
-      now_asks is =
-          subst (λ f. IsCounted f k ahead u before → Asks f (Puts f k ahead (sought u k (get_or news i 0))) u before a1 v after a2)
-          keeps.rule.meaning more (counted is)
+      now_asks is = grind (arith, more, counted is, keeps.rule.meaning)
 
       pub turn_asks : IsCounted next k ahead t first → Asks next (PutsAll next k ahead olds t) t first a0 v after a2
-      turn_asks is =
-          Asks-then (asks is)
-          (λ all ways. subst (λ s. Puts next k ahead s (Contains all)) (sym (same 0)) (ways i 0 below)) (now_asks is)
+      turn_asks is = Asks-then (asks is) (λ all ways. let here = ways i 0 below in grind (arith, same 0, here)) (now_asks is)
 
       pub turn_done : {r : ℕ} → IsFound mid (IsCounted mid k ahead u before) k ahead (sought u k (get_or news i 0)) v after r →
           AreDone next k ahead (i + 1) olds (set news i r) t first v after
@@ -83,12 +71,8 @@ module _ {next mid : List ℕ → ℕ} {c d k ahead i : ℕ} {olds news : List �
         count = length-set news i r ∙ done.count;
         found = λ j d e early. elim (cases_eq j i) [
           | inl here ↦
-              let C = IsCounted next k ahead t first in
-              let is = subst (λ f. IsFound f (IsCounted f k ahead u before) k ahead (sought u k (get_or news i 0)) v after r)
-              keeps.rule.meaning found in
-              let last : IsFound next C k ahead (sought u k (get_or news i 0)) v after r = IsFound-then (Grows-same v) counted (λ also q put. put) is in
               let at = get_or-set_same news i r e (omega (arith, below, done.count)) in
-              grind (arith, last, same d, at)
+              grind (arith, found, keeps.rule.meaning, counted, same d, at)
           | inr other ↦
               let kept = λ (is : IsCounted next k ahead t first). (now_asks is).kept in
               let was = IsFound-then {more = after} now.grows (λ is. is) kept (done.found j d e (omega (arith, early, other))) in
@@ -141,17 +125,12 @@ module _ {next : List ℕ → ℕ} {c : ℕ} {t : Table} {memo : Memo} {k ahead 
       All (λ q. Puts next (k - 1) m q (IsBelow c)) ss → CanSeekAll mid d u after (k - 1) m numbers
   can_all {mid} {d} {m} {u} {after} {numbers} {ss} rule right are puts =
       let below = by_number are (λ q. Puts next (k - 1) m q (IsBelow c)) puts in
-      let ready : All (IsReady next c u.rows (k - 1) m) numbers =
-      λ i e low. record { numbered = (are.each i e (one 0) low).numbered; below = below i e low } in
-      grind (arith, ready)
+      grind (arith, below, are.each)
 
   -- the nine
   module _ {a : Table} (adds : AddsOf nine_of t number a) where
-    ta : Grows t a
-    ta = (adds k s stands).grows
-
     pub nine_keeps : Keeps next next c c (Makes next k ahead s) t a memo
-    nine_keeps = Keeps-made ta can.seek.right (λ all way.
+    nine_keeps = Keeps-made (adds k s stands).grows can.seek.right (λ all way.
         (adds k s stands).among all
         (All-weaker _ _ (λ q. Makes-itself next (k - 1) first q (Contains all)) (nine_of s) (makes_parts (Contains all) way).0))
 
@@ -209,8 +188,7 @@ module _ {next : List ℕ → ℕ} {c : ℕ} {t : Table} {memo : Memo} {k ahead 
                 four_ends : AreNumbers f.rows (suc (k - 1)) ends × (square_of f.rows (suc (k - 1)) ends ≡ result next k ahead s)
                 four_ends =
                     let four = four_results t.rows (suc k) number (result next (k - 1) first) (result next (k - 1) (ahead - first)) (StandForAll-found fours_are two_finds) in
-                    let in_parts = ap (λ m. in_two (result next (k - 1) m) (result next (k - 1) (ahead - m)) s) is_first in
-                    (four.0, four.1 ∙ in_parts ∙ sym (result-in_two next (k - 1) ahead s can.some) ∙ ap (λ l. result next l ahead s) is_k)
+                    grind (arith, four, is_first, result-in_two next (k - 1) ahead s can.some, is_k)
 
                 joined : (r : ℕ) → IsSquareOf g.rows ends r → StandsFor g.rows (suc k) r (result next k ahead s)
                 joined r is = let whole = StandsFor-joined four_ends.0 fg is (Grows-same g) in grind (arith, whole, four_ends.1, is_k)
@@ -224,15 +202,12 @@ module _ {next : List ℕ → ℕ} {c : ℕ} {t : Table} {memo : Memo} {k ahead 
                     (more : IsCounted mid (k - 1) (ahead - first) e after →
                     Asks mid (PutsAll mid (k - 1) (ahead - first) four_numbers e) e after a1 f last a2) where
                   -- so far, and then
-                  asks_nine : IsCounted next k ahead t memo → Asks next (Puts next k ahead s) t memo a0 a memo a0
-                  asks_nine is = Asks-grown ta can.seek.right is.has
-
                   counts_nine : IsCounted next k ahead t memo → IsCounted next (k - 1) first a memo
-                  counts_nine is = record { few = omega (arith, is_first); has = (asks_nine is).has }
+                  counts_nine is = record { few = omega (arith, is_first); has = HasPut-grows next t a memo nine_keeps.grows can.seek.right is.has }
 
                   asks_fours : IsCounted next k ahead t memo → Asks next (Puts next k ahead s) t memo a0 e after a1
                   asks_fours is =
-                      let first_asks = Asks-then (asks_nine is)
+                      let first_asks = Asks-then (Asks-grown nine_keeps.grows can.seek.right is.has)
                       (λ all way. by_number nine_are (λ q. Puts next (k - 1) first q (Contains all)) (puts_parts (Contains all) way).0)
                       (one_asks (counts_nine is)) in
                       Asks-next first_asks (Asks-grown be first_keeps.right first_asks.has)
@@ -251,10 +226,10 @@ module _ {next : List ℕ → ℕ} {c : ℕ} {t : Table} {memo : Memo} {k ahead 
 
                   joined_asks : IsCounted next k ahead t memo → Asks next (Puts next k ahead s) t memo a0 g last a2
                   joined_asks is =
-                      let last_asks = Asks-then (asks_fours is)
+                      let asks = Asks-then (asks_fours is)
                       (λ all way. by_number fours_are (λ q. Puts next (k - 1) (ahead - first) q (Contains all)) (puts_parts (Contains all) way).1)
                       (asks_last is) in
-                      Asks-next last_asks (Asks-grown fg last_keeps.right last_asks.has)
+                      Asks-next asks (Asks-grown fg last_keeps.right asks.has)
 
                   -- what is found is there in the end
                   joined_finds : (r : ℕ) → IsSquareOf g.rows ends r → IsFound next (IsCounted next k ahead t memo) k ahead s g last r

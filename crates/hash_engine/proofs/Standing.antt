@@ -1,12 +1,17 @@
--- Numbers that stand for squares, in a table that grows.
-use Rattle.std.proofs.Common.{◌≡◌, ℕ, zero, suc, ◌+◌, ◌<◌, ◌≤◌, List, [], ◌∷◌, length, get_or, drop, drop-cons, refl, ◌∙◌, ap, arith}
+-- Numbers that stand for squares in a table that grows, and squares that are added to it.
+use Rattle.std.proofs.Common.{◌≡◌, ℕ, zero, suc, ◌+◌, ◌<◌, ◌≤◌, List, [], ◌∷◌, length, get_or, drop, drop-cons, refl, ap, arith, sym, subst, lit<}
 use Rattle.std.proofs.lemmas.List.{drop_all}
 use Rattle.worlds.specs.Square.{Square, one, four}
-use Rattle.square_table.specs.Squares.{Table, IsNumber, AreNumbers, square_in, square_of, kids_at, first_number, IsSquareOf, Grows}
-use Rattle.square_table.proofs.Shared.Growth.{Grows-then, IsNumber-grows, square_in-grows, AreNumbers-grows, square_of-grows, IsNumber-joined, square_in-joined, AreNumbers-quadrants, square_in-quadrants}
-use Rattle.hash_life.specs.Puts.{fours_of, IsBelow}
+use Rattle.square_table.specs.Squares.{Table, IsNumber, AreNumbers, square_in, square_of, kids_at, first_number, IsSquareOf, Grows, GrowsBy}
+use Rattle.square_table.proofs.Shared.Growth.{Grows-then, IsNumber-grows, square_in-grows, AreNumbers-grows, square_of-grows, IsNumber-joined, square_in-joined, AreNumbers-quadrants, square_in-quadrants, Grows-same}
+use Rattle.hash_life.specs.Puts.{fours_of, IsBelow, nine_of}
 use Rattle.hash_engine.specs.Standing.{StandsFor, StandForAll, IsReady}
 use Rattle.hash_life.proofs.Shared.Below.{Keeps, Puts-below}
+use Rattle.std.specs.Prelude.{Contains}
+use Rattle.std.proofs.lemmas.List.Elements.{All-nil, All-cons, All-contains, Contains-get_or}
+use Rattle.square_table.specs.Made.{Adds}
+use Rattle.square_table.proofs.Shared.Making.{Adds-joined}
+use Rattle.hash_engine.specs.Adding.{AddsFours}
 
 infixr 20 ◌⟫◌
 pub ◌⟫◌ : {t u v : Table} → Grows t u → Grows u v → Grows t v
@@ -32,10 +37,8 @@ pub StandsFor-joined : {t u v : Table} {k : ℕ} {kids : List ℕ} {n : ℕ} →
     Grows u v → StandsFor v.rows (suc k) n (square_of t.rows k kids)
 StandsFor-joined {t} {u} {v} {k} {kids} {n} are grows is then =
     let now = AreNumbers-grows t u k kids grows are in
-    StandsFor-grows u v (suc k) n _ then (record {
-      numbered = IsNumber-joined u.rows k kids n is now;
-      square = square_in-joined u.rows k kids n is ∙ square_of-grows t u k kids grows are;
-    })
+    let number = IsNumber-joined u.rows k kids n is now in
+    grind (arith, number, square_of-grows t u k kids grows are, square_in-joined u.rows k kids n is, StandsFor-grows u v (suc k) n)
 
 -- a square by the list of its quadrants
 kids_of : (rows : List (List ℕ)) (k n : ℕ) (kids : List ℕ) → IsNumber rows (suc k) n → kids ≡ kids_at rows n →
@@ -84,38 +87,27 @@ StandForAll-cons {rows} {k} {n} {s} {ns} {ss} is are =
 abbrev pub corner : List ℕ → ℕ → ℕ → ℕ → ℕ → List ℕ
 corner ns p q r o = get_or ns p 0 ∷ get_or ns q 0 ∷ get_or ns r 0 ∷ get_or ns o 0 ∷ []
 
-pub AreNumbers-corner : {rows : List (List ℕ)} {k : ℕ} {nine : List ℕ} {ss : List Square} → StandForAll rows k nine ss → length nine ≡ 9 →
-    (p q r o : ℕ) → p < 9 → q < 9 → r < 9 → o < 9 → AreNumbers rows k (corner nine p q r o)
-AreNumbers-corner are count p q r o lp lq lr lo =
-    grind (arith, are.each p 0 (one 0), are.each q 0 (one 0), are.each r 0 (one 0), are.each o 0 (one 0))
-
 -- a list of nine by its elements
 nine_at : (ss : List Square) (e : Square) → length ss ≡ 9 →
     ss ≡ get_or ss 0 e ∷ get_or ss 1 e ∷ get_or ss 2 e ∷ get_or ss 3 e ∷ get_or ss 4 e ∷ get_or ss 5 e ∷ get_or ss 6 e ∷ get_or ss 7 e ∷ get_or ss 8 e ∷ []
 nine_at ss e count =
     let at : (i : ℕ) → i < 9 → drop i ss ≡ get_or ss i e ∷ drop (suc i) ss = λ i low. drop-cons ss i e (omega (arith, low, count)) in
-    cc (
-      drop_all 9 ss (omega (arith, count)),
-      at 0 (omega arith),
-      at 1 (omega arith),
-      at 2 (omega arith),
-      at 3 (omega arith),
-      at 4 (omega arith),
-      at 5 (omega arith),
-      at 6 (omega arith),
-      at 7 (omega arith),
-      at 8 (omega arith),
-    )
+    let end = drop_all 9 ss (omega (arith, count)) in
+    cc (end, at 0 (lit< tt), at 1 (lit< tt), at 2 (lit< tt), at 3 (lit< tt), at 4 (lit< tt), at 5 (lit< tt), at 6 (lit< tt), at 7 (lit< tt), at 8 (lit< tt))
 
-abbrev pub corners : List (List ℕ) → ℕ → List ℕ → List Square
-corners rows k nine =
-    square_of rows k (corner nine 0 1 3 4) ∷ square_of rows k (corner nine 1 2 4 5)
-    ∷ square_of rows k (corner nine 3 4 6 7) ∷ square_of rows k (corner nine 4 5 7 8) ∷ []
+-- four that overlap in what nine stand for
+pub record Overlap (rows : List (List ℕ)) (k : ℕ) (nine : List ℕ) (ss : List Square) : Type 0 where
+  pub nw : AreNumbers rows k (corner nine 0 1 3 4)
+  pub ne : AreNumbers rows k (corner nine 1 2 4 5)
+  pub sw : AreNumbers rows k (corner nine 3 4 6 7)
+  pub se : AreNumbers rows k (corner nine 4 5 7 8)
+  pub is : fours_of ss ≡ square_of rows k (corner nine 0 1 3 4) ∷ square_of rows k (corner nine 1 2 4 5)
+      ∷ square_of rows k (corner nine 3 4 6 7) ∷ square_of rows k (corner nine 4 5 7 8) ∷ []
 
-pub fours_at : {rows : List (List ℕ)} {k : ℕ} {nine : List ℕ} {ss : List Square} → StandForAll rows k nine ss → length nine ≡ 9 → fours_of ss ≡ corners rows k nine
-fours_at {rows} {k} {nine} {ss} are count =
-    let at : (j : ℕ) → j < 9 → square_in rows k (get_or nine j 0) ≡ get_or ss j (one 0) = λ j low. (are.each j 0 (one 0) (omega (arith, low, count))).square in
-    grind (arith, nine_at ss (one 0), are.count, at)
+pub overlap : {rows : List (List ℕ)} {k : ℕ} {nine : List ℕ} {ss : List Square} → StandForAll rows k nine ss → length nine ≡ 9 → Overlap rows k nine ss
+overlap {rows} {k} {nine} {ss} are count =
+    let at : (j : ℕ) → j < 9 → StandsFor rows k (get_or nine j 0) (get_or ss j (one 0)) = λ j low. are.each j 0 (one 0) (omega (arith, low, count)) in
+    grind (arith, nine_at ss (one 0), are.count, at 0, at 1, at 2, at 3, at 4, at 5, at 6, at 7, at 8)
 
 -- a square with states has some
 below_some : (c : ℕ) (s : Square) → IsBelow c s → 0 < c
@@ -127,3 +119,53 @@ pub IsReady-root : (next : List ℕ → ℕ) (c : ℕ) → Keeps c next → (row
     level ≡ suc (suc k) → m ≡ n → IsNumber rows level n → IsBelow c (square_in rows level n) → IsReady next c rows k generations m
 IsReady-root next c keeps rows level k generations n m is same numbered below =
     grind (arith, Puts-below c next keeps (below_some c (square_in rows level n) below) k generations (square_in rows level n))
+
+Adds-none : (all : List Square) (t : Table) → Adds all t t
+Adds-none all t = record { grows = Grows-same t; among = λ those has are. are }
+
+-- one square more of those that are listed
+more : {all : List Square} {t u v : Table} {k : ℕ} {kids : List ℕ} → Adds all t u → AreNumbers t.rows k kids →
+    Contains all (square_of t.rows k kids) → Grows u v → GrowsBy kids u v → Adds all t v
+more {all} {t} {u} {v} {k} {kids} before are has grows step =
+    let grown = before.grows ⟫ grows in
+    let joined = Adds-joined u v kids k (square_of t.rows k kids) grows step
+    (λ n is. let made = StandsFor-joined are grown is (Grows-same v) in record { numbered = made.numbered; square = made.square }) in
+    record {
+      grows = grown;
+      among = λ those each rows.
+          let one = All-cons (Contains those) _ [] (All-contains (Contains those) all _ each has) (All-nil (Contains those)) in
+          joined.among those one (before.among those each rows);
+    }
+
+-- the square that is joined, and no other
+pub Adds-made : {t u : Table} {k : ℕ} {kids : List ℕ} → AreNumbers t.rows k kids → Grows t u → GrowsBy kids t u → Adds (square_of t.rows k kids ∷ []) t u
+Adds-made {t} {u} {k} {kids} are grows step = more (Adds-none _ t) are (Contains-get_or (square_of t.rows k kids ∷ []) 0 (one 0) (omega arith)) grows step
+
+-- one of those that are listed
+listed : {all made : List Square} → all ≡ made → (j : ℕ) → j < length made → Contains all (get_or made j (one 0))
+listed {all} {made} is j low = subst (λ ss. Contains ss (get_or made j (one 0))) (sym is) (Contains-get_or made j (one 0) low)
+
+-- the nine squares that overlap in one, of which five are joined of quadrants of its quadrants
+pub Adds-nine : {t u1 u2 u3 u4 u5 : Table} {k n : ℕ} {ks ws xs ys zs : List ℕ} {s : Square} → StandsFor t.rows (suc (suc k)) n s
+    → ks ≡ kids_at t.rows n → ws ≡ kids_at t.rows (get_or ks 0 0) → xs ≡ kids_at t.rows (get_or ks 1 0)
+    → ys ≡ kids_at t.rows (get_or ks 2 0) → zs ≡ kids_at t.rows (get_or ks 3 0)
+    → Grows t u1 → GrowsBy (get_or ws 1 0 ∷ get_or xs 0 0 ∷ get_or ws 3 0 ∷ get_or xs 2 0 ∷ []) t u1
+    → Grows u1 u2 → GrowsBy (get_or ws 2 0 ∷ get_or ws 3 0 ∷ get_or ys 0 0 ∷ get_or ys 1 0 ∷ []) u1 u2
+    → Grows u2 u3 → GrowsBy (get_or ws 3 0 ∷ get_or xs 2 0 ∷ get_or ys 1 0 ∷ get_or zs 0 0 ∷ []) u2 u3
+    → Grows u3 u4 → GrowsBy (get_or xs 2 0 ∷ get_or xs 3 0 ∷ get_or zs 0 0 ∷ get_or zs 1 0 ∷ []) u3 u4
+    → Grows u4 u5 → GrowsBy (get_or ys 1 0 ∷ get_or zs 0 0 ∷ get_or ys 3 0 ∷ get_or zs 2 0 ∷ []) u4 u5 → Adds (nine_of s) t u5
+Adds-nine {t} {u1} {u2} {u3} {u4} {u5} {k} {n} {ks} {ws} {xs} {ys} {zs} {s} whole is_k is_w is_x is_y is_z g1 s1 g2 s2 g3 s3 g4 s4 g5 s5 =
+    let q = sixteen whole is_k is_w is_x is_y is_z in
+    let has = listed (ap nine_of q.is) in
+    more (more (more (more (more (Adds-none (nine_of s) t) q.north (has 1 (omega arith)) g1 s1) q.west (has 3 (omega arith)) g2 s2)
+    q.centre (has 4 (omega arith)) g3 s3) q.east (has 5 (omega arith)) g4 s4) q.south (has 7 (omega arith)) g5 s5
+
+-- four of nine, of which each is joined
+pub Adds-fours : {t u1 u2 u3 u4 : Table} {nine : List ℕ} → length nine ≡ 9 → Grows t u1 → GrowsBy (corner nine 0 1 3 4) t u1
+    → Grows u1 u2 → GrowsBy (corner nine 1 2 4 5) u1 u2 → Grows u2 u3 → GrowsBy (corner nine 3 4 6 7) u2 u3
+    → Grows u3 u4 → GrowsBy (corner nine 4 5 7 8) u3 u4 → AddsFours t nine u4
+Adds-fours {t} {u1} {u2} {u3} {u4} {nine} count g1 s1 g2 s2 g3 s3 g4 s4 k ss are =
+    let q = overlap are count in
+    let has = listed q.is in
+    more (more (more (more (Adds-none (fours_of ss) t) q.nw (has 0 (omega arith)) g1 s1) q.ne (has 1 (omega arith)) g2 s2)
+    q.sw (has 2 (omega arith)) g3 s3) q.se (has 3 (omega arith)) g4 s4

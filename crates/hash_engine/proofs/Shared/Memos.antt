@@ -11,14 +11,8 @@ use Rattle.hash_engine.proofs.Standing.{StandsFor-grows}
 
 IsResult-grows : (next : List ℕ → ℕ) (t u : Table) (k generations n r : ℕ) → Grows t u → IsResult next t.rows k generations n r → IsResult next u.rows k generations n r
 IsResult-grows next t u k generations n r grows is =
-    grind (
-      arith,
-      square_in-grows t u (suc (suc k)) n grows,
-      IsNumber-grows t u (suc (suc k)) n grows,
-      StandsFor-grows t u (suc k) r,
-      Makes-weaker next k generations,
-      IsMade-grows t u,
-    )
+    let same = square_in-grows t u (suc (suc k)) n grows in
+    grind (arith, same, IsNumber-grows t u (suc (suc k)) n grows, StandsFor-grows t u (suc k) r, Makes-weaker next k generations, IsMade-grows t u)
 
 AreKnown-grows : (next : List ℕ → ℕ) (count : ℕ → ℕ) (t u : Table) (known : List ℕ) → Grows t u → AreKnown next count t.rows known → AreKnown next count u.rows known
 AreKnown-grows next count t u known grows are = record { right = λ i some. let h = are.right i some in (h.0, IsResult-grows next t u h.0 (count h.0) _ _ grows h.1) }

@@ -1,5 +1,5 @@
 -- The squares that were put to the rule, where the table grows and where more results are known.
-use Rattle.std.proofs.Common.{◌≡◌, ℕ, zero, suc, ◌+◌, ◌-◌, ◌<◌, ◌≤◌, ◌^◌, List, length, length-append, get_or, ◌∙◌, ap, arith}
+use Rattle.std.proofs.Common.{◌≡◌, ℕ, zero, suc, ◌+◌, ◌-◌, ◌<◌, ◌^◌, List, length, length-append, get_or, ◌∙◌, ap, arith}
 use Rattle.std.specs.Prelude.{◌≢◌, true, false}
 use Rattle.std.proofs.lemmas.Bool.{cases_eq, cases_lt, ltb-true, and_parts}
 use Rattle.std.proofs.lemmas.Bool.Decides.{nat_tests}
@@ -48,32 +48,23 @@ pub known-put : (rows : List (List ℕ)) (memo : Memo) (i : ℕ) → is_put rows
 unfolding is_put
 known-put rows memo i is = grind (arith, and_parts, ltb-true)
 
--- a place with no row
-is_put-new : (next : List ℕ → ℕ) (rows more : List (List ℕ)) (memo : Memo) (i : ℕ) → IsRight next rows memo → length rows ≤ i → is_put more memo i ≡ false
-is_put-new next rows more memo i right new = grind (arith, right.full.right, within, is_put-none, cases_lt)
-
 by_level : (t u : Table) (memo : Memo) (k i : ℕ) → Grows t u → IsNumber t.rows (suc (suc k)) (first_number + i) → 0 < get_or memo.full.items i 0 → is_put u.rows memo i ≡ is_put t.rows memo i
 by_level t u memo zero i grows number some =
     grind (arith, is_put-two, IsNumber-grows t u 2 (first_number + i))
 by_level t u memo (suc k) i grows number some =
     grind (arith, is_put-more, IsNumber-grows t u (suc (suc (suc k))) (first_number + i))
 
-is_put-grows : (next : List ℕ → ℕ) (t u : Table) (memo : Memo) (i : ℕ) → Grows t u → IsRight next t.rows memo → is_put u.rows memo i ≡ is_put t.rows memo i
-is_put-grows next t u memo i grows right = grind (arith, right.full.right, by_level, is_put-none, cases_lt)
-
 pub is_put-agrees : (rows : List (List ℕ)) (old new : Memo) (i : ℕ) → get_or new.full.items i 0 ≡ get_or old.full.items i 0 → is_put rows new i ≡ is_put rows old i
 unfolding is_put
 is_put-agrees rows old new i same = cc
 
 -- they are as many in a table that grew
-pub longer : (t u : Table) → Grows t u → length t.rows ≤ length u.rows
-longer t u grows = omega (arith, ap length grows.rows, length-append t.rows grows.more)
-
 pub count-grows : (next : List ℕ → ℕ) (t u : Table) (memo : Memo) → Grows t u → IsRight next t.rows memo → length (places_put u.rows memo) ≡ length (places_put t.rows memo)
 unfolding places_put
 count-grows next t u memo grows right =
-    ap length (picked-none (is_put u.rows memo) (length t.rows) (length u.rows) (longer t u grows) (λ i new there. is_put-new next t.rows u.rows memo i right new)
-    ∙ picked-same (is_put u.rows memo) (is_put t.rows memo) (length t.rows) (λ i there. is_put-grows next t u memo i grows right))
+    ap length (picked-none (is_put u.rows memo) (length t.rows) (length u.rows) (omega (arith, ap length grows.rows, length-append t.rows grows.more))
+    (λ i new there. grind (arith, right.full.right, within, is_put-none, cases_lt))
+    ∙ picked-same (is_put u.rows memo) (is_put t.rows memo) (length t.rows) (λ i there. grind (arith, right.full.right, by_level, is_put-none, cases_lt)))
 
 -- what is remembered elsewhere
 pub others : (k generations n r : ℕ) (old new : Memo) (i : ℕ) → IsRemembered k generations n r old new → i ≢ n - first_number → get_or new.full.items i 0 ≡ get_or old.full.items i 0

@@ -15,11 +15,7 @@ loop-place-preserved c =
     let four = λ (j : ℕ). is_four c.args.table.now.rows (first_number + j) in
     let put = is_put c.args.table.now.rows c.args.memo.now in
     let i = c.loop-place.place in
-    elim c.if-is_four.branch [
-      | then-is_four+then-has_full w ↦ grind (arith, count-passed four i, count-passed put i, count-failed put i)
-      | then-is_four+else-has_full w ↦ grind (arith, count-passed four i, count-passed put i, count-failed put i)
-      | else-is_four w ↦ grind (arith, count-failed four i, count-failed put i)
-    ]
+    grind (arith, count-passed four i, count-passed put i, count-failed four i, count-failed put i, c.if-is_four.branch)
 
 pub returns-clause-fours : goal.returns-clause-fours
 unfolding places_of_four

@@ -1,7 +1,6 @@
 use Rattle.std.proofs.Common.{◌<◌, suc, ◌∙◌, arith, rules}
 use Rattle.hash_engine.proofs.Standing.{above}
-use Rattle.hash_engine.proofs.Finding.{Keeps-middle, Keeps-noted, IsFound-none, IsResult-found, found_still, asks_still}
-use Rattle.hash_engine.proofs.Putting.{Asks-grown}
+use Rattle.hash_engine.proofs.Finding.{Keeps-middle, Keeps-noted, IsFound-none, IsResult-found, found_still, asks_still, Asks-grown}
 use Rattle.hash_engine.proofs.Computing.{AreDone-all, turn_can, turn_keeps, turn_asks, turn_done, nine_keeps, nine_can, first_keeps, fours_keeps, fours_can, last_keeps, joined_keeps, joined_all}
 use Rattle.hash_engine.proofs.later.+forward.Goals as goal
 
@@ -108,8 +107,8 @@ forward-remember-requires-clause-number g t c = above _ (suc c.args.k) _ c.requi
 pub forward-returns-in_err-remember-clause-keeps : goal.forward-returns-in_err-remember-clause-keeps
 forward-returns-in_err-remember-clause-keeps g t c =
     let made = c.in_ok-made.ensures in
-    let is = IsResult-found made.keeps.grows c.requires.ready.numbered made.found in
-    Keeps-noted c.remember.new.self made.keeps (c.remember.ensures.right _ _ made.keeps.right is)
+    Keeps-noted c.remember.new.self made.keeps
+    (c.remember.ensures.right _ _ made.keeps.right (IsResult-found made.keeps.grows c.requires.ready.numbered made.found))
 
 pub forward-returns : goal.forward-returns
 forward-returns g t c =

@@ -10,8 +10,7 @@ use Rattle.hash_engine.specs.Search.{sought, Keeps, IsCounted}
 use Rattle.hash_engine.specs.declared.memo.Memo.{Memo}
 use Rattle.hash_engine.proofs.Standing.{above}
 use Rattle.hash_engine.proofs.Shared.Memos.{IsRight-grows}
-use Rattle.hash_engine.proofs.Finding.{Keeps-noted, adds_result, IsFound-put, IsResult-found}
-use Rattle.hash_engine.proofs.Putting.{IsPut-noted, Asks-put}
+use Rattle.hash_engine.proofs.Finding.{Keeps-noted, adds_result, IsFound-put, IsResult-found, IsPut-noted, Asks-put}
 use Rattle.hash_engine.proofs.later.put.Goals as goal
 
 pub later-requires : goal.later-requires

@@ -1,4 +1,4 @@
-use Rattle.std.proofs.Common.{◌≡◌, suc, ◌-◌, ◌^◌, ◌≤◌, ◌∙◌, ap, ap₂, subst, sym, arith, rules}
+use Rattle.std.proofs.Common.{◌≡◌, suc, ◌-◌, ◌∙◌, ap, ap₂, arith, rules}
 use Rattle.worlds.specs.Square.{square_at}
 use Rattle.square_table.specs.Squares.{level_of, square_in, cells_of}
 use Rattle.hash_engine.specs.Search.{IsCounted}
@@ -34,10 +34,8 @@ returns-clause-found g c =
       few = count.few;
       base = count.base;
       put = λ few.
-          let counted : IsCounted next k c.args.generations c.args.table.now c.turn_to.new.self = record {
-            few = grind (arith, less, few);
-            has = c.turn_to.ensures.put next c.args.table.now.rows (c.nothing-memo.ensures.put next c.args.table.now.rows);
-          } in
+          let has = c.turn_to.ensures.put next c.args.table.now.rows (c.nothing-memo.ensures.put next c.args.table.now.rows) in
+          let counted : IsCounted next k c.args.generations c.args.table.now c.turn_to.new.self = grind (arith, less, few, has) in
           let none = c.turn_to.ensures.full ∙ c.nothing-memo.ensures.none in
           let asked = made.asks counted in
           let blocks = put_blocks c.number.result none counted made.keeps.right count.distinct count.put asked in
@@ -50,14 +48,11 @@ returns-clause-once g c = λ w x y few at.
     let k = c.level-k.result - 2 in
     let made = c.in_ok-number.ensures in
     let count = c.count_squares-counts.ensures in
-    let level : suc (suc k) ≡ level_of c.args.root = omega (arith, c.requires.level.0, c.level-k.ensures) in
-    let counted : IsCounted next k c.args.generations c.args.table.now c.turn_to.new.self = record {
-      few = subst (λ l. c.args.generations ≤ 2 ^ (l - 2)) (sym c.level-k.ensures) few;
-      has = c.turn_to.ensures.put next c.args.table.now.rows (c.nothing-memo.ensures.put next c.args.table.now.rows);
-    } in
+    let has = c.turn_to.ensures.put next c.args.table.now.rows (c.nothing-memo.ensures.put next c.args.table.now.rows) in
+    let counted : IsCounted next k c.args.generations c.args.table.now c.turn_to.new.self = grind (arith, c.level-k.ensures, few, has) in
     let none = c.turn_to.ensures.full ∙ c.nothing-memo.ensures.none in
     let cells : square_in c.args.table.now.rows (suc (suc k)) c.number.result ≡ square_at w (suc (suc k)) x y =
-    ap₂ (square_in c.args.table.now.rows) level c.number.ensures ∙ at ∙ ap (λ l. square_at w l x y) (sym level) in
+    grind (arith, c.requires.level.0, c.level-k.ensures, c.number.ensures, at) in
     let blocks = put_blocks c.number.result none counted made.keeps.right count.distinct count.put (made.asks counted) (made.found.put counted) in
     asked_once c.number.result none counted made.keeps.right count.distinct count.put (made.asks counted) w x y
     (g.met.Q.Ask.quiet c.args.rule.now) cells blocks

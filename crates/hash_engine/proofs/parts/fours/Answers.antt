@@ -1,9 +1,8 @@
-use Rattle.std.proofs.Common.{◌≡◌, refl, sym, subst, suc, length, inl, lit<, rules, ℕ, List}
+use Rattle.std.proofs.Common.{◌≡◌, refl, sym, subst, suc, length, inl, rules, ℕ, List}
 use Rattle.square_table.specs.Squares.{GrowsBy}
 use Rattle.square_table.proofs.Shared.Growth.{Grows-same}
 use Rattle.hash_engine.specs.Standing.{StandForAll}
-use Rattle.hash_engine.proofs.Standing.{◌⟫◌, StandsFor-joined, AreNumbers-corner, StandForAll-nil, StandForAll-cons, fours_at}
-use Rattle.hash_engine.proofs.Adding.{Adds-fours}
+use Rattle.hash_engine.proofs.Standing.{◌⟫◌, StandsFor-joined, overlap, StandForAll-nil, StandForAll-cons, Adds-fours}
 use Rattle.hash_engine.proofs.parts.fours.Goals as goal
 
 pub returns-clause-squares : goal.returns-clause-squares
@@ -14,12 +13,12 @@ returns-clause-squares c = λ k ss are.
     let sw = c.in_ok-sw.ensures in
     let se = c.in_ok-se.ensures in
     let all = c.join_guessed-4.new.self in
-    let at = AreNumbers-corner are count in
-    subst (StandForAll all.rows (suc k) _) (sym (fours_at are count))
-    (StandForAll-cons (StandsFor-joined (at 0 1 3 4 (lit< tt) (lit< tt) (lit< tt) (lit< tt)) nw.grows nw.square (ne.grows ⟫ sw.grows ⟫ se.grows))
-    (StandForAll-cons (StandsFor-joined (at 1 2 4 5 (lit< tt) (lit< tt) (lit< tt) (lit< tt)) (nw.grows ⟫ ne.grows) ne.square (sw.grows ⟫ se.grows))
-    (StandForAll-cons (StandsFor-joined (at 3 4 6 7 (lit< tt) (lit< tt) (lit< tt) (lit< tt)) (nw.grows ⟫ ne.grows ⟫ sw.grows) sw.square se.grows)
-    (StandForAll-cons (StandsFor-joined (at 4 5 7 8 (lit< tt) (lit< tt) (lit< tt) (lit< tt)) (nw.grows ⟫ ne.grows ⟫ sw.grows ⟫ se.grows) se.square (Grows-same all)) StandForAll-nil))))
+    let q = overlap are count in
+    subst (StandForAll all.rows (suc k) _) (sym q.is)
+    (StandForAll-cons (StandsFor-joined q.nw nw.grows nw.square (ne.grows ⟫ sw.grows ⟫ se.grows))
+    (StandForAll-cons (StandsFor-joined q.ne (nw.grows ⟫ ne.grows) ne.square (sw.grows ⟫ se.grows))
+    (StandForAll-cons (StandsFor-joined q.sw (nw.grows ⟫ ne.grows ⟫ sw.grows) sw.square se.grows)
+    (StandForAll-cons (StandsFor-joined q.se (nw.grows ⟫ ne.grows ⟫ sw.grows ⟫ se.grows) se.square (Grows-same all)) StandForAll-nil))))
 
 pub returns-in_err-ne-clause-adds : goal.returns-in_err-ne-clause-adds
 returns-in_err-ne-clause-adds c =

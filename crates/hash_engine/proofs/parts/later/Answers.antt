@@ -7,8 +7,7 @@ use Rattle.square_table.proofs.Shared.Growth.{Grows-same}
 use Rattle.hash_life.specs.Result.{later}
 use Rattle.hash_life.specs.Puts.{IsBelow}
 use Rattle.hash_engine.specs.Standing.{of_four, StandsFor}
-use Rattle.hash_engine.proofs.Standing.{StandsFor-joined}
-use Rattle.hash_engine.proofs.Adding.{Adds-made}
+use Rattle.hash_engine.proofs.Standing.{StandsFor-joined, Adds-made}
 use Rattle.hash_engine.proofs.parts.later.Goals as goal
 
 -- four by four cells by their numbers

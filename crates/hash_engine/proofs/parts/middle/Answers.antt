@@ -4,8 +4,7 @@ use Rattle.square_table.proofs.Shared.Growth.{Grows-same}
 use Rattle.square_table.specs.Made.{Adds}
 use Rattle.hash_life.specs.Result.{middle}
 use Rattle.hash_engine.specs.Standing.{StandsFor}
-use Rattle.hash_engine.proofs.Standing.{sixteen, StandsFor-joined}
-use Rattle.hash_engine.proofs.Adding.{Adds-made}
+use Rattle.hash_engine.proofs.Standing.{sixteen, StandsFor-joined, Adds-made}
 use Rattle.hash_engine.proofs.parts.middle.Goals as goal
 
 pub returns-clause-square : goal.returns-clause-square

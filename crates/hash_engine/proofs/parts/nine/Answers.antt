@@ -3,8 +3,7 @@ use Rattle.square_table.specs.Squares.{GrowsBy}
 use Rattle.square_table.proofs.Shared.Growth.{Grows-same}
 use Rattle.hash_life.specs.Puts.{nine_of}
 use Rattle.hash_engine.specs.Standing.{StandForAll}
-use Rattle.hash_engine.proofs.Standing.{◌⟫◌, StandsFor-grows, StandsFor-joined, sixteen, StandForAll-nil, StandForAll-cons}
-use Rattle.hash_engine.proofs.Adding.{Adds-nine}
+use Rattle.hash_engine.proofs.Standing.{◌⟫◌, StandsFor-grows, StandsFor-joined, sixteen, StandForAll-nil, StandForAll-cons, Adds-nine}
 use Rattle.hash_engine.proofs.parts.nine.Goals as goal
 
 pub returns-clause-squares : goal.returns-clause-squares
@@ -18,17 +17,13 @@ returns-clause-squares c = λ k s whole.
     let east = c.in_ok-east.ensures in
     let south = c.in_ok-south.ensures in
     let two = north.grows ⟫ west.grows in
-    let three = two ⟫ centre.grows in
-    let four = three ⟫ east.grows in
-    let five = four ⟫ south.grows in
     let last = east.grows ⟫ south.grows in
-    let later = centre.grows ⟫ last in
-    let most = west.grows ⟫ later in
+    let five = two ⟫ centre.grows ⟫ last in
     subst (StandForAll all.rows (suc k) _) (sym (ap nine_of q.is))
-    (StandForAll-cons (StandsFor-grows t all _ _ _ five q.a) (StandForAll-cons (StandsFor-joined q.north north.grows north.square most)
-    (StandForAll-cons (StandsFor-grows t all _ _ _ five q.b) (StandForAll-cons (StandsFor-joined q.west two west.square later)
-    (StandForAll-cons (StandsFor-joined q.centre three centre.square last)
-    (StandForAll-cons (StandsFor-joined q.east four east.square south.grows) (StandForAll-cons (StandsFor-grows t all _ _ _ five q.c)
+    (StandForAll-cons (StandsFor-grows t all _ _ _ five q.a) (StandForAll-cons (StandsFor-joined q.north north.grows north.square (west.grows ⟫ centre.grows ⟫ last))
+    (StandForAll-cons (StandsFor-grows t all _ _ _ five q.b) (StandForAll-cons (StandsFor-joined q.west two west.square (centre.grows ⟫ last))
+    (StandForAll-cons (StandsFor-joined q.centre (two ⟫ centre.grows) centre.square last)
+    (StandForAll-cons (StandsFor-joined q.east (two ⟫ centre.grows ⟫ east.grows) east.square south.grows) (StandForAll-cons (StandsFor-grows t all _ _ _ five q.c)
     (StandForAll-cons (StandsFor-joined q.south five south.square (Grows-same all)) (StandForAll-cons (StandsFor-grows t all _ _ _ five q.d)
     StandForAll-nil)))))))))
 

@@ -1,29 +1,25 @@
 use Rattle.std.proofs.Common.{◌^◌, get_or, arith}
 use Rattle.std.proofs.lemmas.Option.{IfSome_then}
 use Rattle.hash_engine.proofs.Shared.Memos.{recalled}
-use Rattle.hash_engine.proofs.Putting.{recalled_put}
+use Rattle.hash_engine.proofs.Finding.{recalled_put}
 use Rattle.hash_engine.proofs.memo.Memo.recall.Goals as goal
 
 pub returns-then-generations-full-clause-some : goal.returns-then-generations-full-clause-some
 returns-then-generations-full-clause-some c =
-    let some = c.found.ensures.some in
-    IfSome_then c.found.result some (λ r is next rows right number.
+    IfSome_then c.found.result c.found.ensures.some (λ r is next rows right number.
     grind (arith, recalled next (λ k. 2 ^ k) rows c.deref.result.now c.args.k c.args.generations c.args.number r, right.full, is))
 
 pub returns-then-generations-self-clause-some : goal.returns-then-generations-self-clause-some
 returns-then-generations-self-clause-some c =
-    let some = c.found-then-generations-self.ensures.some in
-    IfSome_then c.found-then-generations-self.result some (λ r is next rows right number.
+    IfSome_then c.found-then-generations-self.result c.found-then-generations-self.ensures.some (λ r is next rows right number.
     grind (arith, recalled next (λ k. get_or c.args.self.now.counts k 0) rows c.deref-then-generations-self.result.now c.args.k c.args.generations c.args.number r, right.part, is))
 
 pub returns-then-generations-full-clause-put : goal.returns-then-generations-full-clause-put
 returns-then-generations-full-clause-put c =
-    let some = c.found.ensures.some in
-    IfSome_then c.found.result some (λ r is next rows has number few.
+    IfSome_then c.found.result c.found.ensures.some (λ r is next rows has number few.
     grind (arith, recalled_put next (λ k. 2 ^ k) rows c.args.self.now.full.items c.deref.result.now c.args.k c.args.generations c.args.number r, has.full, is))
 
 pub returns-then-generations-self-clause-put : goal.returns-then-generations-self-clause-put
 returns-then-generations-self-clause-put c =
-    let some = c.found-then-generations-self.ensures.some in
-    IfSome_then c.found-then-generations-self.result some (λ r is next rows has number few.
+    IfSome_then c.found-then-generations-self.result c.found-then-generations-self.ensures.some (λ r is next rows has number few.
     grind (arith, recalled_put next (λ k. get_or c.args.self.now.counts k 0) rows c.args.self.now.full.items c.deref-then-generations-self.result.now c.args.k c.args.generations c.args.number r, has.part, is))
