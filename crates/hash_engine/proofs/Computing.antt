@@ -102,17 +102,14 @@ module _ {next : List ℕ → ℕ} {c : ℕ} {t : Table} {memo : Memo} {k ahead 
   abbrev fours : List Square
   fours = fours_of (map (result next (k - 1) first) (nine_of s))
 
-  abbrev Parts : (ℕ → Square → Type 0) → Type 0
-  Parts Q = OfParts next (k - 1) first (ahead - first) s Q
-
   is_k : suc (k - 1) ≡ k
   is_k = omega (arith, can.above)
 
-  makes_parts : (P : Square → Type 0) → Makes next k ahead s P → Parts (λ m q. Makes next (k - 1) m q P)
+  makes_parts : (P : Square → Type 0) → Makes next k ahead s P → OfParts next (k - 1) first (ahead - first) s (λ m q. Makes next (k - 1) m q P)
   makes_parts P makes =
       Makes-parts next (k - 1) ahead first s P can.some is_first (subst (λ l. Makes next l ahead s P) (sym is_k) makes)
 
-  puts_parts : (P : Square → Type 0) → Puts next k ahead s P → Parts (λ m q. Puts next (k - 1) m q P)
+  puts_parts : (P : Square → Type 0) → Puts next k ahead s P → OfParts next (k - 1) first (ahead - first) s (λ m q. Puts next (k - 1) m q P)
   puts_parts P puts =
       Puts-parts next (k - 1) ahead first s P can.some is_first (subst (λ l. Puts next l ahead s P) (sym is_k) puts)
 

@@ -9,7 +9,7 @@ use Rattle.square_table.proofs.Shared.Numbers.{one_level}
 use Rattle.hash_life.specs.Puts.{Puts}
 use Rattle.hash_life.proofs.Shared.InTwo.{Puts-itself, result-none, result-later}
 use Rattle.hash_life.proofs.Shared.Put.{Puts-last, Puts-weaker, Puts-none}
-use Rattle.hash_engine.specs.Memo.{AreKnown, IsRight, IsPut, ArePut, HasPut, IsRemembered, IsResult}
+use Rattle.hash_engine.specs.Memo.{AreKnown, IsRight, IsPut, ArePut, HasPut, IsRemembered, IsResult, StaysRight}
 use Rattle.hash_engine.specs.Asked.{is_put, places_put}
 use Rattle.hash_engine.specs.Search.{sought, Asks, Keeps, IsCounted, IsFound, FindsForAll}
 use Rattle.hash_engine.specs.declared.memo.Memo.{Memo}
@@ -191,11 +191,6 @@ pub Keeps-then : {next mid new : List ℕ → ℕ} {c d e : ℕ} {Way Rest : (Sq
     Keeps next new c e Way t v more
 Keeps-then {next} {mid} {new} {c} {d} {e} {Way} {Rest} {t} {u} {v} {memo} {more} keeps rest then = grind (arith, Grows-then)
 
--- and then more was remembered
-pub Keeps-noted : {next new : List ℕ → ℕ} {c d : ℕ} {Way : (Square → Type 0) → Type 0} {t u : Table} {memo : Memo}
-    (more : Memo) → Keeps next new c d Way t u memo → IsRight next u.rows more → Keeps next new c d Way t u more
-Keeps-noted more keeps right = record { rule = keeps.rule; grows = keeps.grows; right = right; adds = keeps.adds }
-
 -- a square that a number stands for is in the table
 pub made_of : {rows : List (List ℕ)} {k n : ℕ} {s : Square} → StandsFor rows (suc k) n s → IsMade rows s
 made_of {rows} {k} {n} {s} is = record { level = k; number = n; numbered = is.numbered; square = is.square }
@@ -244,12 +239,14 @@ IsFound-then {next} {Counted} {Also} {k} {generations} {n} {s} {u} {v} {memo} {m
     let puts = Puts-weaker next k generations s (IsPut u.rows memo.full.items) (IsPut v.rows more.full.items) in
     grind (arith, StandsFor-grows u v (suc k) n, IsMade-grows u v, makes, puts)
 
--- what is found is the result of the square in the table that it's found in
-pub IsResult-found : {next : List ℕ → ℕ} {Counted : Type 0} {k generations n r : ℕ} {t u : Table} {memo : Memo} →
-    Grows t u → IsNumber t.rows (suc (suc k)) n → IsFound next Counted k generations (sought t k n) u memo r →
-    IsResult next u.rows k generations n r
-IsResult-found {next} {Counted} {k} {generations} {n} {r} {t} {u} {memo} grows numbered is =
-    grind (arith, IsNumber-grows t u (suc (suc k)) n grows, square_in-grows t u (suc (suc k)) n grows)
+-- and then it was remembered
+pub Keeps-noted : {next new : List ℕ → ℕ} {c d k generations n r : ℕ} {Counted : Type 0} {Way : (Square → Type 0) → Type 0} {t u : Table} {memo old : Memo}
+    (more : Memo) → Keeps next new c d Way t u memo → IsNumber t.rows (suc (suc k)) n → IsFound next Counted k generations (sought t k n) u old r →
+    StaysRight k generations n r memo more → Keeps next new c d Way t u more
+Keeps-noted {next} {new} {c} {d} {k} {generations} {n} {r} {Counted} {Way} {t} {u} more keeps numbered found stays =
+    let same = square_in-grows t u (suc (suc k)) n keeps.grows numbered in
+    let is : IsResult next u.rows k generations n r = grind (arith, IsNumber-grows t u (suc (suc k)) n keeps.grows numbered, same, found) in
+    record { rule = keeps.rule; grows = keeps.grows; right = stays next u.rows keeps.right is; adds = keeps.adds }
 
 -- where numbers stand for squares, what is found for them is of these
 pub StandForAll-found : {next : List ℕ → ℕ} {k generations : ℕ} {numbers found : List ℕ} {ss : List Square} {t u : Table}

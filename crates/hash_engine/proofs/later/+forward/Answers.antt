@@ -1,6 +1,6 @@
 use Rattle.std.proofs.Common.{◌<◌, suc, ◌∙◌, arith, rules}
 use Rattle.hash_engine.proofs.Standing.{above}
-use Rattle.hash_engine.proofs.Finding.{Keeps-middle, Keeps-noted, IsFound-none, IsResult-found, found_still, asks_still, Asks-grown}
+use Rattle.hash_engine.proofs.Finding.{Keeps-middle, Keeps-noted, IsFound-none, found_still, asks_still, Asks-grown}
 use Rattle.hash_engine.proofs.Computing.{AreDone-all, turn_can, turn_keeps, turn_asks, turn_done, nine_keeps, nine_can, first_keeps, fours_keeps, fours_can, last_keeps, joined_keeps, joined_all}
 use Rattle.hash_engine.proofs.later.+forward.Goals as goal
 
@@ -107,8 +107,7 @@ forward-remember-requires-clause-number g t c = above _ (suc c.args.k) _ c.requi
 pub forward-returns-in_err-remember-clause-keeps : goal.forward-returns-in_err-remember-clause-keeps
 forward-returns-in_err-remember-clause-keeps g t c =
     let made = c.in_ok-made.ensures in
-    Keeps-noted c.remember.new.self made.keeps
-    (c.remember.ensures.right _ _ made.keeps.right (IsResult-found made.keeps.grows c.requires.ready.numbered made.found))
+    Keeps-noted c.remember.new.self made.keeps c.requires.ready.numbered made.found c.remember.ensures.right
 
 pub forward-returns : goal.forward-returns
 forward-returns g t c =
@@ -120,8 +119,7 @@ forward-returns g t c =
     omega (arith, above c.compute.new.table.rows c.args.k c.in_ok-made.made made.found.square.numbered) in
     let high : 0 < c.args.k = omega (arith, c.if-k-eq0.false) in
     record {
-      keeps = Keeps-noted c.remember.new.self made.keeps
-          (c.remember.ensures.right _ _ made.keeps.right (IsResult-found grows numbered made.found));
+      keeps = Keeps-noted c.remember.new.self made.keeps numbered made.found c.remember.ensures.right;
       end = search rules;
       found = found_still high grows numbered noted some made.found;
       asks = asks_still high grows numbered noted some made.found made.asks;

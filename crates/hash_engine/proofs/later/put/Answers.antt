@@ -10,7 +10,7 @@ use Rattle.hash_engine.specs.Search.{sought, Keeps, IsCounted}
 use Rattle.hash_engine.specs.declared.memo.Memo.{Memo}
 use Rattle.hash_engine.proofs.Standing.{above}
 use Rattle.hash_engine.proofs.Shared.Memos.{IsRight-grows}
-use Rattle.hash_engine.proofs.Finding.{Keeps-noted, adds_result, IsFound-put, IsResult-found, IsPut-noted, Asks-put}
+use Rattle.hash_engine.proofs.Finding.{Keeps-noted, adds_result, IsFound-put, IsPut-noted, Asks-put}
 use Rattle.hash_engine.proofs.later.put.Goals as goal
 
 pub later-requires : goal.later-requires
@@ -36,7 +36,7 @@ returns-in_err-remember-clause-keeps g c =
     let numbered = c.requires.ready.numbered in
     let keeps = asked c.args.number c.requires.some made.rule made.adds c.requires.anew.right in
     let found = IsFound-put c.args.number {Counted = ⊥} {memo = c.args.memo.now} c.requires.some keeps.grows numbered made.square (λ no. absurd no) in
-    Keeps-noted c.remember.new.self keeps (c.remember.ensures.right _ _ keeps.right (IsResult-found keeps.grows numbered found))
+    Keeps-noted c.remember.new.self keeps numbered found c.remember.ensures.right
 
 pub returns : goal.returns
 returns g c =
@@ -49,7 +49,7 @@ returns g c =
     let found = IsFound-put c.args.number some keeps.grows numbered made.square
     (λ (is : IsCounted (g.Q.Ask.meaning c.args.rule.now) 0 c.args.ahead c.args.table.now c.args.memo.now). IsPut-noted some is.few keeps.grows numbered noted positive) in
     record {
-      keeps = Keeps-noted c.remember.new.self keeps (c.remember.ensures.right _ _ keeps.right (IsResult-found keeps.grows numbered found));
+      keeps = Keeps-noted c.remember.new.self keeps numbered found c.remember.ensures.right;
       found = found;
       asks = λ is.
           let anew = c.requires.anew.anew (let few = is.few in omega (arith, some, few)) in
