@@ -1,9 +1,10 @@
 -- What a change of a quadtree does to the map that contracts see.
-use Rattle.std.proofs.Common.{◌≡◌, ◌⊎◌, ℕ, ◌-◌, ◌≤◌, nat_lt, ◌||◌, true, false, cond, Option, None, Some, ℤ, pos, negsuc, ◌+ℤ◌, ◌-ℤ◌, ◌<ℤ◌, ◌++◌, refl, sym, ap, ap₂, ◌∙◌, inl, inr, arith}
+use Rattle.std.proofs.Common.{◌≡◌, ◌⊎◌, ℕ, ◌-◌, ◌≤◌, nat_lt, ◌<◌, ◌||◌, true, false, cond, Option, None, Some, ℤ, pos, negsuc, ◌+ℤ◌, ◌-ℤ◌, ◌<ℤ◌, ◌++◌, refl, sym, ap, ap₂, ◌∙◌, inl, inr, arith}
 use Rattle.std.specs.Option.{option_or}
 use Rattle.std.specs.FinMap as finite
 use Rattle.std.specs.FinMap.Entries.{find}
 use Rattle.std.proofs.lemmas.Int.{ints}
+use Rattle.std.proofs.lemmas.Bool.Decides.{nat_tests}
 use Rattle.square_tree.specs.Place.{Place, place_cmp, same_place}
 use Rattle.square_tree.specs.Quadtree.{Quadtree, keep, HasLevel, at}
 use Rattle.square_tree.specs.Change.{IsSet}
@@ -69,39 +70,29 @@ is_states_of l t m h inside west north =
 pub states_of-keep : (l : ℕ) → states_of l keep ≡ finite.empty
 states_of-keep l = is_states_of l keep finite.empty tt (λ x y u v p q. sym (finite.get-empty place_cmp (y, x))) (λ x y p. finite.get-empty place_cmp (y, x)) (λ x y p. finite.get-empty place_cmp (y, x))
 
-elsewhere : (p q : Place) (s : ℕ) (o : Option ℕ) → (p ≡ q → ⊥) → cond (same_place p q) (Some s) o ≡ o
-elsewhere p q s o h = elim (same_place p q) as (λ b. same_place p q ≡ b → cond b (Some s) o ≡ o) [ true ↦ λ e. absurd (h (same_is p q e)) | false ↦ λ e. refl ] refl
-
 -- one that says one state more
 pub states_of-set : {l u v s : ℕ} {old new : Quadtree} (x y : ℤ) → IsSet l u v s old new → HasLevel l old → x ≡ (least l +ℤ pos u) → y ≡ (least l +ℤ pos v) → states_of l new ≡ finite.insert (states_of l old) (y, x) s
 states_of-set {l} {u} {v} {s} {old} {new} x y set h p q =
     let m = states_of l old in
     is_states_of l new (finite.insert m (y, x) s) set.level
     (λ x' y' u' v' p' q'.
+    let old_says = get_at l old x' y' u' v' h p' q' in
+    let is : same_place (y', x') (y, x) ≡ true → (u' ≡ u) × (v' ≡ v) = λ e.
+    let same = same_is (y', x') (y, x) e in
+    let row = ap (λ (k : Place). k.0) same in
+    let column = ap (λ (k : Place). k.1) same in
+    (omega (arith, ints, column, p, p'), omega (arith, ints, row, q, q')) in
+    let so : u' ≡ u → v' ≡ v → same_place (y', x') (y, x) ≡ true = λ a b. is_same (y', x') (y, x) (cc (a, b, p, q, p', q')) in
     elim (same_place (y', x') (y, x)) as (λ b. same_place (y', x') (y, x) ≡ b → at new l u' v' ≡ cond b (Some s) (finite.get m (y', x'))) [
-      | true ↦ λ e.
-          let is = same_is (y', x') (y, x) e in
-          let row : y' ≡ y = ap (λ (k : Place). k.0) is in
-          let column : x' ≡ x = ap (λ (k : Place). k.1) is in
-          let a : u' ≡ u = omega (arith, ints, column, p, p') in
-          let b : v' ≡ v = omega (arith, ints, row, q, q') in
-          ap₂ (λ c r. at new l c r) a b ∙ set.here
-      | false ↦ λ e.
-          let out : u' ≡ u → v' ≡ v → ⊥ = λ a b.
-          let row : y' ≡ y = q' ∙ ap (λ n. least l +ℤ pos n) b ∙ sym q in
-          let column : x' ≡ x = p' ∙ ap (λ n. least l +ℤ pos n) a ∙ sym p in
-          let same = is_same (y', x') (y, x) (λ i. (row i, column i)) in
-          cc (e, same) in
-          set.others u' v' out ∙ sym (get_at l old x' y' u' v' h p' q')
+      | true ↦ λ e. let at_it = is e in grind (arith, at_it, set.here)
+      | false ↦ λ e. grind (arith, e, so, set.others u' v', old_says)
     ] refl ∙ sym (finite.get-insert places_total m (y, x) s (y', x')))
     (λ x' y' left.
-    finite.get-insert places_total m (y, x) s (y', x')
-    ∙ elsewhere (y', x') (y, x) s _ (λ e. let f : x' ≡ x = ap (λ (k : Place). k.1) e in omega (arith, ints, left, p, f))
-    ∙ get_west l old x' y' left)
+    let apart : (y', x') ≡ (y, x) → ⊥ = λ e. let f = ap (λ (k : Place). k.1) e in omega (arith, ints, left, p, f) in
+    grind (arith, finite.get-insert places_total m (y, x) s (y', x'), get_west l old x' y' left, same_is (y', x') (y, x), apart))
     (λ x' y' above.
-    finite.get-insert places_total m (y, x) s (y', x')
-    ∙ elsewhere (y', x') (y, x) s _ (λ e. let f : y' ≡ y = ap (λ (k : Place). k.0) e in omega (arith, ints, above, q, f))
-    ∙ get_north l old x' y' above)
+    let apart : (y', x') ≡ (y, x) → ⊥ = λ e. let f = ap (λ (k : Place). k.0) e in omega (arith, ints, above, q, f) in
+    grind (arith, finite.get-insert places_total m (y, x) s (y', x'), get_north l old x' y' above, same_is (y', x') (y, x), apart))
 
 -- what is said once one map is laid on another
 pub get-overlaid : (c d : Cells) (p : Place) → finite.get (overlaid c d).states p ≡ option_or (finite.get c.states p) (finite.get d.states p)
@@ -115,11 +106,10 @@ pub get_from : (l k : ℕ) (t : Quadtree) (x y : ℤ) (u v : ℕ) → HasLevel k
     → finite.get (states_of k t) (y, x) ≡ at_from (reach l - reach k) (reach l - reach k) k t u v
 get_from l k t x y u v h less p q =
     let d = reach l - reach k in
-    split u d (λ b. finite.get (states_of k t) (y, x) ≡ cond (b || nat_lt v d) None (at t k (u - d) (v - d)))
-    (λ left. get_west k t x y (omega (arith, ints, p, less, left)))
-    (λ right. split v d (λ b. finite.get (states_of k t) (y, x) ≡ cond b None (at t k (u - d) (v - d)))
-    (λ above. get_north k t x y (omega (arith, ints, q, less, above)))
-    (λ below. get_at k t x y (u - d) (v - d) h (omega (arith, ints, p, less, right)) (omega (arith, ints, q, less, below))))
+    let west = λ (left : u < d). get_west k t x y (omega (arith, ints, p, less, left)) in
+    let north = λ (above : v < d). get_north k t x y (omega (arith, ints, q, less, above)) in
+    let inside = λ (right : d ≤ u) (below : d ≤ v). get_at k t x y (u - d) (v - d) h (omega (arith, ints, p, less, right)) (omega (arith, ints, q, less, below)) in
+    grind (arith, nat_tests, west, north, inside)
 
 -- a place to the west of a square is to the west of each smaller one
 get_far_west : (l k : ℕ) (t : Quadtree) (x y : ℤ) → reach k ≤ reach l → x <ℤ least l → finite.get (states_of k t) (y, x) ≡ None

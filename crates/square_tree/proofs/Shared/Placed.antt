@@ -25,24 +25,10 @@ split a b P f g = elim (nat_lt a b) as (λ t. nat_lt a b ≡ t → P t) [ true �
 -- nothing is said of cells beyond the square
 at_beyond : (t : Quadtree) (l x y : ℕ) → HasLevel l t → (2 ^ l ≤ x) ⊎ (2 ^ l ≤ y) → at t l x y ≡ None
 at_beyond keep l x y h p = refl
-at_beyond (cell s) l x y h p =
-    elim (subst (λ n. (2 ^ n ≤ x) ⊎ (2 ^ n ≤ y)) h p) [
-      | inl q ↦ grind (arith, nat_tests, q)
-      | inr q ↦ grind (arith, nat_tests, q)
-    ]
+at_beyond (cell s) l x y h p = let one : 2 ^ l ≡ 1 = rw h refl in grind (arith, nat_tests, one)
 at_beyond (quad nw ne sw se) l x y h p =
     let m = 2 ^ (l - 1) in
-    let d = double l h.0 in
-    let east : x < m → 2 ^ l ≤ y = λ near. elim p [ inl q ↦ absurd (omega (arith, d, near, q)) | inr q ↦ q ] in
-    let south : y < m → 2 ^ l ≤ x = λ near. elim p [ inl q ↦ q | inr q ↦ absurd (omega (arith, d, near, q)) ] in
-    let beyond : (2 ^ (l - 1) ≤ x - m) ⊎ (2 ^ (l - 1) ≤ y - m) = elim p [ inl q ↦ inl (omega (arith, d, q)) | inr q ↦ inr (omega (arith, d, q)) ] in
-    split y m (λ s. cond s (cond (nat_lt x m) (at nw (l - 1) x y) (at ne (l - 1) (x - m) y)) (cond (nat_lt x m) (at sw (l - 1) x (y - m)) (at se (l - 1) (x - m) (y - m))) ≡ None)
-    (λ above. split x m (λ e. cond e (at nw (l - 1) x y) (at ne (l - 1) (x - m) y) ≡ None)
-    (λ left. at_beyond nw (l - 1) x y h.1 (inl (omega (arith, d, left, south above))))
-    (λ right. at_beyond ne (l - 1) (x - m) y h.2 (inl (omega (arith, d, south above)))))
-    (λ below. split x m (λ e. cond e (at sw (l - 1) x (y - m)) (at se (l - 1) (x - m) (y - m)) ≡ None)
-    (λ left. at_beyond sw (l - 1) x (y - m) h.3 (inr (omega (arith, d, east left))))
-    (λ right. at_beyond se (l - 1) (x - m) (y - m) h.4 beyond))
+    grind (arith, nat_tests, double l h.0, at_beyond nw (l - 1) x y h.1, at_beyond ne (l - 1) (x - m) y h.2, at_beyond sw (l - 1) x (y - m) h.3, at_beyond se (l - 1) (x - m) (y - m) h.4)
 
 -- to the east or to the south
 pub at_east : (t : Quadtree) (l x y : ℕ) → HasLevel l t → 2 ^ l ≤ x → at t l x y ≡ None
@@ -55,69 +41,48 @@ pub or_none : (o : Option ℕ) → option_or o None ≡ o
 or_none None = refl
 or_none (Some s) = refl
 
-cell_over : (b : Bool) (s s' : ℕ) → cond b (Some s) None ≡ option_or (cond b (Some s) None) (cond b (Some s') None)
-cell_over true s s' = refl
-cell_over false s s' = refl
-
-each_or : (b : Bool) (x x' x'' y y' y'' : Option ℕ) → x ≡ option_or x' x'' → y ≡ option_or y' y'' → cond b x y ≡ option_or (cond b x' y') (cond b x'' y'')
-each_or true x x' x'' y y' y'' p q = p
-each_or false x x' x'' y y' y'' p q = q
-
 -- what one quadtree laid on another of its level says
 pub at-over : (t u : Quadtree) (l x y : ℕ) → HasLevel l t → HasLevel l u → at (over t u) l x y ≡ option_or (at t l x y) (at u l x y)
 at-over keep u l x y h k = refl
 at-over (cell s) keep l x y h k = sym (or_none _)
-at-over (cell s) (cell s') l x y h k = cell_over _ s s'
+at-over (cell s) (cell s') l x y h k = grind arith
 at-over (cell s) (quad a b c d) l x y h k = let e : l ≡ 0 = h in let f : 0 < l = k.0 in absurd (omega arith)
 at-over (quad a b c d) keep l x y h k = sym (or_none _)
 at-over (quad a b c d) (cell s) l x y h k = let e : l ≡ 0 = k in let f : 0 < l = h.0 in absurd (omega arith)
 at-over (quad a b c d) (quad e f g i) l x y h k =
     let m = 2 ^ (l - 1) in
-    each_or (nat_lt y m) _ _ _ _ _ _
-    (each_or (nat_lt x m) _ _ _ _ _ _ (at-over a e (l - 1) x y h.1 k.1) (at-over b f (l - 1) (x - m) y h.2 k.2))
-    (each_or (nat_lt x m) _ _ _ _ _ _ (at-over c g (l - 1) x (y - m) h.3 k.3) (at-over d i (l - 1) (x - m) (y - m) h.4 k.4))
+    grind (arith, at-over a e (l - 1) x y h.1 k.1, at-over b f (l - 1) (x - m) y h.2 k.2, at-over c g (l - 1) x (y - m) h.3 k.3, at-over d i (l - 1) (x - m) (y - m) h.4 k.4)
 
 -- nothing is said from some place on of what lies to its west
 pub at_from_west : (t : Quadtree) (k x y x' y' : ℕ) → x' < x → at_from x y k t x' y' ≡ None
-at_from_west t k x y x' y' p =
-    let e : nat_lt x' x ≡ true = grind (arith, nat_tests, p) in
-    ap (λ b. cond (b || nat_lt y' y) None (at t k (x' - x) (y' - y))) e
+at_from_west t k x y x' y' p = grind (arith, nat_tests)
 
 -- or to its north
 pub at_from_north : (t : Quadtree) (k x y x' y' : ℕ) → y' < y → at_from x y k t x' y' ≡ None
-at_from_north t k x y x' y' p =
-    let e : (nat_lt x' x || nat_lt y' y) ≡ true = grind (arith, nat_tests, p) in
-    ap (λ b. cond b None (at t k (x' - x) (y' - y))) e
+at_from_north t k x y x' y' p = grind (arith, nat_tests)
 
 -- or to the east of the square
 pub at_from_east : (t : Quadtree) (k x y x' y' : ℕ) → HasLevel k t → x + 2 ^ k ≤ x' → at_from x y k t x' y' ≡ None
-at_from_east t k x y x' y' h p = let far : 2 ^ k ≤ x' - x = omega (arith, p) in both (nat_lt x' x || nat_lt y' y) refl (at_east t k (x' - x) (y' - y) h far)
+at_from_east t k x y x' y' h p = grind (arith, at_east t k (x' - x) (y' - y) h)
 
 -- or to its south
 pub at_from_south : (t : Quadtree) (k x y x' y' : ℕ) → HasLevel k t → y + 2 ^ k ≤ y' → at_from x y k t x' y' ≡ None
-at_from_south t k x y x' y' h p = let far : 2 ^ k ≤ y' - y = omega (arith, p) in both (nat_lt x' x || nat_lt y' y) refl (at_south t k (x' - x) (y' - y) h far)
+at_from_south t k x y x' y' h p = grind (arith, at_south t k (x' - x) (y' - y) h)
 
 -- the same, counted in the quadrants to the east
 pub at_from_move_x : (t : Quadtree) (k x y x' y' m : ℕ) → m ≤ x → m ≤ x' → at_from (x - m) y k t (x' - m) y' ≡ at_from x y k t x' y'
-at_from_move_x t k x y x' y' m p q =
-    let e : nat_lt (x' - m) (x - m) ≡ nat_lt x' x = grind (arith, nat_tests, p, q) in
-    let f : x' - m - (x - m) ≡ x' - x = omega (arith, p, q) in
-    ap₂ (λ b n. cond (b || nat_lt y' y) None (at t k n (y' - y))) e f
+at_from_move_x t k x y x' y' m p q = let f : x' - m - (x - m) ≡ x' - x = omega (arith, p, q) in grind (arith, nat_tests, f)
 
 -- the same, counted in the quadrants to the south
 pub at_from_move_y : (t : Quadtree) (k x y x' y' m : ℕ) → m ≤ y → m ≤ y' → at_from x (y - m) k t x' (y' - m) ≡ at_from x y k t x' y'
-at_from_move_y t k x y x' y' m p q =
-    let e : nat_lt (y' - m) (y - m) ≡ nat_lt y' y = grind (arith, nat_tests, p, q) in
-    let f : y' - m - (y - m) ≡ y' - y = omega (arith, p, q) in
-    ap₂ (λ b n. cond (nat_lt x' x || b) None (at t k (x' - x) n)) e f
+at_from_move_y t k x y x' y' m p q = let f : y' - m - (y - m) ≡ y' - y = omega (arith, p, q) in grind (arith, nat_tests, f)
 
 -- from the corner on it is what the square says
 pub at_from_corner : (t : Quadtree) (k x y : ℕ) → at_from 0 0 k t x y ≡ at t k x y
 at_from_corner t k x y =
-    let e : (nat_lt x 0 || nat_lt y 0) ≡ false = grind (arith, nat_tests) in
     let f : x - 0 ≡ x = omega arith in
     let g : y - 0 ≡ y = omega arith in
-    ap (λ b. cond b None (at t k (x - 0) (y - 0))) e ∙ ap₂ (λ n o. at t k n o) f g
+    grind (arith, nat_tests, f, g)
 
 -- a square of the same level is the square
 pub aligned_corner : {l x : ℕ} → IsAligned l l x → x ≡ 0
@@ -150,25 +115,12 @@ aligned_east {l} {k} {x} a less east =
     let d : 2 ^ l ≡ 2 * 2 ^ (l - 1) = double l (omega (arith, less)) in
     record { smaller = omega (arith, less); before = a.before - n; is = omega (arith, spread, p); inside = omega (arith, inside, d, east) }
 
-pub none_or : {w z : Option ℕ} → w ≡ None → z ≡ option_or w z
-none_or {w} {z} e = sym (ap (λ o. option_or o z) e)
-
 -- what is laid in the north-west quadrant is laid on the square
 pub laid_nw : {l x y k : ℕ} {other nw ne sw se nw' : Quadtree} → HasLevel k other → HasLevel l (quad nw ne sw se) → x + 2 ^ k ≤ 2 ^ (l - 1) → y + 2 ^ k ≤ 2 ^ (l - 1)
     → IsLaid (l - 1) x y k other nw nw' → IsLaid l x y k other (quad nw ne sw se) (quad nw' ne sw se)
 laid_nw {l} {x} {y} {k} {other} {nw} {ne} {sw} {se} {nw'} h q px py laid = record {
   level = (q.0, laid.level, q.2, q.3, q.4);
-  says = λ x' y'.
-      let m = 2 ^ (l - 1) in
-      let v = l - 1 in
-      let w = at_from x y k other x' y' in
-      split y' m (λ s. cond s (cond (nat_lt x' m) (at nw' v x' y') (at ne v (x' - m) y'))
-      (cond (nat_lt x' m) (at sw v x' (y' - m)) (at se v (x' - m) (y' - m))) ≡ option_or w
-      (cond s (cond (nat_lt x' m) (at nw v x' y') (at ne v (x' - m) y')) (cond (nat_lt x' m) (at sw v x' (y' - m)) (at se v (x' - m) (y' - m)))))
-      (λ below. split x' m (λ b. cond b (at nw' v x' y') (at ne v (x' - m) y') ≡ option_or w (cond b (at nw v x' y') (at ne v (x' - m) y')))
-      (λ left. laid.says x' y')
-      (λ right. none_or (at_from_east other k x y x' y' h (omega (arith, px, right)))))
-      (λ above. none_or (at_from_south other k x y x' y' h (omega (arith, py, above))));
+  says = λ x' y'. grind (arith, nat_tests, laid.says x' y', at_from_east other k x y x' y' h, at_from_south other k x y x' y' h, px, py);
 }
 
 -- in the north-east one
@@ -176,17 +128,7 @@ pub laid_ne : {l x y k : ℕ} {other nw ne sw se ne' : Quadtree} → HasLevel k 
     → IsLaid (l - 1) (x - 2 ^ (l - 1)) y k other ne ne' → IsLaid l x y k other (quad nw ne sw se) (quad nw ne' sw se)
 laid_ne {l} {x} {y} {k} {other} {nw} {ne} {sw} {se} {ne'} h q px py laid = record {
   level = (q.0, q.1, laid.level, q.3, q.4);
-  says = λ x' y'.
-      let m = 2 ^ (l - 1) in
-      let v = l - 1 in
-      let w = at_from x y k other x' y' in
-      split y' m (λ s. cond s (cond (nat_lt x' m) (at nw v x' y') (at ne' v (x' - m) y'))
-      (cond (nat_lt x' m) (at sw v x' (y' - m)) (at se v (x' - m) (y' - m))) ≡ option_or w
-      (cond s (cond (nat_lt x' m) (at nw v x' y') (at ne v (x' - m) y')) (cond (nat_lt x' m) (at sw v x' (y' - m)) (at se v (x' - m) (y' - m)))))
-      (λ below. split x' m (λ b. cond b (at nw v x' y') (at ne' v (x' - m) y') ≡ option_or w (cond b (at nw v x' y') (at ne v (x' - m) y')))
-      (λ left. none_or (at_from_west other k x y x' y' (omega (arith, px, left))))
-      (λ right. laid.says (x' - m) y' ∙ ap (λ o. option_or o (at ne v (x' - m) y')) (at_from_move_x other k x y x' y' m px right)))
-      (λ above. none_or (at_from_south other k x y x' y' h (omega (arith, py, above))));
+  says = λ x' y'. grind (arith, nat_tests, laid.says (x' - 2 ^ (l - 1)) y', at_from_west other k x y x' y', at_from_south other k x y x' y' h, at_from_move_x other k x y x' y' (2 ^ (l - 1)), px, py);
 }
 
 -- in the south-west one
@@ -194,17 +136,7 @@ pub laid_sw : {l x y k : ℕ} {other nw ne sw se sw' : Quadtree} → HasLevel k 
     → IsLaid (l - 1) x (y - 2 ^ (l - 1)) k other sw sw' → IsLaid l x y k other (quad nw ne sw se) (quad nw ne sw' se)
 laid_sw {l} {x} {y} {k} {other} {nw} {ne} {sw} {se} {sw'} h q px py laid = record {
   level = (q.0, q.1, q.2, laid.level, q.4);
-  says = λ x' y'.
-      let m = 2 ^ (l - 1) in
-      let v = l - 1 in
-      let w = at_from x y k other x' y' in
-      split y' m (λ s. cond s (cond (nat_lt x' m) (at nw v x' y') (at ne v (x' - m) y'))
-      (cond (nat_lt x' m) (at sw' v x' (y' - m)) (at se v (x' - m) (y' - m))) ≡ option_or w
-      (cond s (cond (nat_lt x' m) (at nw v x' y') (at ne v (x' - m) y')) (cond (nat_lt x' m) (at sw v x' (y' - m)) (at se v (x' - m) (y' - m)))))
-      (λ below. none_or (at_from_north other k x y x' y' (omega (arith, py, below))))
-      (λ above. split x' m (λ b. cond b (at sw' v x' (y' - m)) (at se v (x' - m) (y' - m)) ≡ option_or w (cond b (at sw v x' (y' - m)) (at se v (x' - m) (y' - m))))
-      (λ left. laid.says x' (y' - m) ∙ ap (λ o. option_or o (at sw v x' (y' - m))) (at_from_move_y other k x y x' y' m py above))
-      (λ right. none_or (at_from_east other k x y x' y' h (omega (arith, px, right)))));
+  says = λ x' y'. grind (arith, nat_tests, laid.says x' (y' - 2 ^ (l - 1)), at_from_north other k x y x' y', at_from_east other k x y x' y' h, at_from_move_y other k x y x' y' (2 ^ (l - 1)), px, py);
 }
 
 -- on all of the square
