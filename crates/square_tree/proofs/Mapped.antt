@@ -1,5 +1,5 @@
 -- What a change of a quadtree does to the map that contracts see.
-use Rattle.std.proofs.Common.{◌≡◌, ◌⊎◌, ℕ, ◌-◌, ◌≤◌, nat_lt, ◌<◌, ◌||◌, true, false, cond, Option, None, Some, ℤ, pos, negsuc, ◌+ℤ◌, ◌-ℤ◌, ◌<ℤ◌, ◌++◌, refl, sym, ap, ap₂, ◌∙◌, inl, inr, arith}
+use Rattle.std.proofs.Common.{◌≡◌, ◌⊎◌, ℕ, ◌-◌, ◌≤◌, ◌<◌, true, false, cond, None, Some, ℤ, pos, negsuc, ◌+ℤ◌, ◌-ℤ◌, ◌<ℤ◌, ◌++◌, refl, sym, ap, ap₂, ◌∙◌, inl, inr, arith}
 use Rattle.std.specs.Option.{option_or}
 use Rattle.std.specs.FinMap as finite
 use Rattle.std.specs.FinMap.Entries.{find}
@@ -12,7 +12,6 @@ use Rattle.square_tree.specs.Laid.{IsLaid, IsPartlyLaid, at_from}
 use Rattle.square_tree.specs.Cells.{Cells, least, reach, overlaid, IsPartlyOverlaid}
 use Rattle.square_tree.specs.Entries.{entries, states_of, cells_of}
 use Rattle.square_tree.specs.TreeOf.{IsTreeOf}
-use Rattle.square_tree.proofs.Shared.Placed.{split}
 use Rattle.square_tree.proofs.Shown.{places_total, places_exact, same_is, is_same, find-append, find_west, find_north, find_at}
 
 -- the state of the cell in column u and row v

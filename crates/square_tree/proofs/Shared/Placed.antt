@@ -1,5 +1,5 @@
 -- Where a quadtree says nothing, and what it says of the cells of a larger square.
-use Rattle.std.proofs.Common.{◌≡◌, ◌⊎◌, ℕ, zero, suc, ◌+◌, ◌-◌, ◌*◌, ◌^◌, ◌<◌, ◌≤◌, nat_lt, ◌||◌, Bool, true, false, cond, Option, None, Some, refl, sym, ap, ap₂, subst, ◌∙◌, inl, inr, arith}
+use Rattle.std.proofs.Common.{◌≡◌, ◌⊎◌, ℕ, zero, suc, ◌+◌, ◌-◌, ◌*◌, ◌^◌, ◌<◌, ◌≤◌, nat_lt, Bool, true, false, cond, Option, None, Some, refl, sym, ap, ap₂, subst, ◌∙◌, inl, inr, arith}
 use Rattle.std.specs.Option.{option_or}
 use Rattle.std.proofs.lemmas.Bool.Decides.{nat_tests}
 use Rattle.std.proofs.lemmas.Nat.{pow-add, pow_pos}
@@ -114,6 +114,9 @@ aligned_east {l} {k} {x} a less east =
     let inside : x + 2 ^ k ≤ 2 ^ l = a.inside in
     let d : 2 ^ l ≡ 2 * 2 ^ (l - 1) = double l (omega (arith, less)) in
     record { smaller = omega (arith, less); before = a.before - n; is = omega (arith, spread, p); inside = omega (arith, inside, d, east) }
+
+pub none_or : {w z : Option ℕ} → w ≡ None → z ≡ option_or w z
+none_or {w} {z} e = sym (ap (λ o. option_or o z) e)
 
 -- what is laid in the north-west quadrant is laid on the square
 pub laid_nw : {l x y k : ℕ} {other nw ne sw se nw' : Quadtree} → HasLevel k other → HasLevel l (quad nw ne sw se) → x + 2 ^ k ≤ 2 ^ (l - 1) → y + 2 ^ k ≤ 2 ^ (l - 1)

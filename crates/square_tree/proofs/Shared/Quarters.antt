@@ -1,5 +1,5 @@
 -- A quadtree that is laid by its quadrants.
-use Rattle.std.proofs.Common.{◌≡◌, ◌⊎◌, ℕ, ◌+◌, ◌-◌, ◌*◌, ◌/◌, ◌^◌, ◌<◌, ◌≤◌, nat_lt, ◌||◌, Bool, true, false, cond, Option, None, Some, refl, sym, ap, ap₂, subst, ◌∙◌, inl, inr, arith}
+use Rattle.std.proofs.Common.{◌≡◌, ◌⊎◌, ℕ, ◌+◌, ◌-◌, ◌*◌, ◌/◌, ◌^◌, ◌<◌, ◌≤◌, nat_lt, ◌||◌, Bool, true, false, cond, Option, None, refl, sym, ap, ap₂, ◌∙◌, inl, inr, arith}
 use Rattle.std.specs.Option.{option_or}
 use Rattle.std.proofs.lemmas.Bool.Decides.{nat_tests}
 use Rattle.square_tree.specs.Quadtree.{Quadtree, keep, quad, HasLevel, at}
@@ -140,6 +140,25 @@ aligned_cell l k e =
     let positive : 0 < 2 ^ l = pow_pos l in
     let one : 2 ^ k ≡ 1 = ap (λ n. 2 ^ n) e in
     record { smaller = omega (arith, e); before = 2 ^ l / 2; is = rw one (omega arith); inside = rw one (omega (arith, positive)) }
+
+-- where the quadrants of a square in the middle of a larger one begin, by the widths of both ones' quadrants
+pub record Middle (l k centre low : ℕ) : Type 0 where
+  pub near : centre - low ≡ reach l - reach k
+  pub far : centre ≡ reach l - reach k + 2 ^ (k - 1)
+  pub aligned_near : IsAligned l (k - 1) (centre - low)
+  pub aligned_far : IsAligned l (k - 1) centre
+
+pub middle : {l k centre low : ℕ} → 0 < k → k ≤ l → centre ≡ 2 ^ (l - 1) → low ≡ 2 ^ (k - 1) → Middle l k centre low
+middle {l} {k} some less is_centre is_low =
+    let h = reach_half k some in
+    let i = reach_half l (omega (arith, some, less)) in
+    let m = reach_mono k l less in
+    record {
+      near = omega (arith, h, i, m, is_centre, is_low);
+      far = omega (arith, h, i, m, is_centre);
+      aligned_near = rw (is_centre, is_low) (aligned_near l k some less);
+      aligned_far = rw is_centre (aligned_centre l k some less);
+    }
 
 -- the same, where the place is given in other words
 pub laid_where : {l x y x' y' k : ℕ} {other old new : Quadtree} → x ≡ x' → y ≡ y' → IsLaid l x y k other old new → IsLaid l x' y' k other old new
