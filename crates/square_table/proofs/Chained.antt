@@ -1,10 +1,9 @@
 -- Rows that are put on chains.
-use Rattle.std.proofs.Common.{◌≡◌, ℕ, zero, suc, ◌+◌, ◌-◌, ◌⊎◌, ◌<◌, ◌≤◌, List, [], ◌∷◌, ◌++◌, length, slice_index, slice_index_or, slice_set, map, refl, sym, ◌∙◌, ap, ap₂, arith, inl, inr}
+use Rattle.std.proofs.Common.{◌≡◌, ℕ, zero, suc, ◌+◌, ◌-◌, ◌⊎◌, ◌<◌, ◌≤◌, List, [], ◌∷◌, ◌++◌, length, slice_index, slice_index_or, slice_set, map, refl, sym, ◌∙◌, ap, subst, arith, inl, inr}
 use Rattle.std.proofs.lemmas.Bool.{cases_lt, cases_eq}
-use Rattle.std.proofs.lemmas.List.{get_or-set_same, get_or-set_other, get_or_default, get_or_append_left, get_or_push, length-set, map-set}
+use Rattle.std.proofs.lemmas.List.{get_or-set_same, get_or-set_other, get_or_default, get_or_append_left, get_or_push, get_or-map, length-set, length_push, map-set, set-get_or}
 use Rattle.square_table.specs.declared.chains.Row.{Row}
 use Rattle.square_table.specs.Chains.{bucket_of, kids_of, IsChained, IsLast}
-use Rattle.square_table.proofs.Shared.Tables.{length-more}
 
 -- how many rows a chain may still lead to from a link
 unfoldable pub rows_left : ℕ → ℕ → ℕ
@@ -18,318 +17,221 @@ goes_on n zero next within some later = absurd (omega (arith, some))
 goes_on n (suc i) zero within some later = omega (arith, within)
 goes_on n (suc i) (suc j) within some later = let up = later j (omega arith) in omega (arith, up, within)
 
--- a row with another link
-abbrev pub linked : List Row → ℕ → ℕ → Row
-linked rows p next = record { kids = (slice_index_or rows p (record { kids = []; next = 0 })).kids; next = next }
+-- chains, by the bucket and the link of each row and the head of each bucket
+record AreLinked (n from count : ℕ) (bucket next head : ℕ → ℕ) : Type 0 where
+  some : 0 < count
+  head_in : (b : ℕ) → b < count → head b ≤ n
+  head_from : (b : ℕ) → b < count → 0 < head b → from < head b
+  head_own : (b : ℕ) → b < count → 0 < head b → bucket (head b - 1) ≡ b
+  head_first : (i : ℕ) → from ≤ i → i < n → (0 < head (bucket i)) × (head (bucket i) ≤ i + 1)
+  next_in : (i : ℕ) → from ≤ i → i < n → next i ≤ n
+  next_later : (i : ℕ) → from ≤ i → i < n → 0 < next i → i + 1 < next i
+  next_own : (i : ℕ) → from ≤ i → i < n → 0 < next i → bucket (next i - 1) ≡ bucket i
+  next_first : (i j : ℕ) → from ≤ i → i < j → j < n → bucket i ≡ bucket j → (0 < next i) × (next i ≤ j + 1)
+
+abbrev none : Row
+none = record { kids = []; next = 0 }
+
+abbrev bucket_at : List Row → ℕ → ℕ → ℕ
+bucket_at rows count i = bucket_of (kids_of (slice_index_or rows i none)) count
+
+abbrev next_at : List Row → ℕ → ℕ
+next_at rows i = (slice_index_or rows i none).next
+
+abbrev Linked : List Row → ℕ → List ℕ → Type 0
+Linked rows from heads = AreLinked (length rows) from (length heads) (λ i. bucket_at rows (length heads) i) (λ i. next_at rows i) (λ b. slice_index heads b)
+
+linked_by : (rows : List Row) (from : ℕ) (heads : List ℕ) → IsChained rows from heads → Linked rows from heads
+linked_by rows from heads is = record {
+  some = is.some;
+  head_in = is.head_in;
+  head_from = λ b h some. omega (arith, is.head_from b (slice_index heads b - 1) h (omega arith));
+  head_own = λ b h some. is.head_own b (slice_index heads b - 1) none h (omega arith);
+  head_first = λ i low h. (is.head_some i none low h, is.head_first i none low h);
+  next_in = λ i. is.next_in i none;
+  next_later = λ i low h some. omega (arith, is.next_later i (next_at rows i - 1) none low h (omega arith));
+  next_own = λ i low h some. is.next_own i (next_at rows i - 1) none none low h (omega arith);
+  next_first = λ i j low less h same. (is.next_some i j none none low less h same, is.next_first i j none none low less h same);
+}
+
+chained_by : (rows : List Row) (from : ℕ) (heads : List ℕ) → Linked rows from heads → IsChained rows from heads
+chained_by rows from heads is =
+    let any : (i : ℕ) (d : Row) → i < length rows → slice_index_or rows i d ≡ slice_index_or rows i none = λ i d h. get_or_default rows i d none h in
+    record {
+      some = is.some;
+      head_in = is.head_in;
+      head_from = λ b i h e. omega (arith, is.head_from b h (omega (arith, e)), e);
+      head_own = λ b i d h e. rw (any i d (omega (arith, e, is.head_in b h))) (ap (bucket_at rows (length heads)) (omega (arith, e)) ∙ is.head_own b h (omega (arith, e)));
+      head_some = λ i d low h. grind (arith, any i d, is.head_first i);
+      head_first = λ i d low h. grind (arith, any i d, is.head_first i);
+      next_in = λ i d low h. grind (arith, any i d, is.next_in i);
+      next_later = λ i j d low h e. grind (arith, any i d, is.next_later i);
+      next_own = λ i j d o low h e.
+          let on : next_at rows i ≡ j + 1 = sym (ap (λ (r : Row). r.next) (any i d h)) ∙ e in
+          rw (any i d h, any j o (omega (arith, on, is.next_in i low h))) (ap (bucket_at rows (length heads)) (omega (arith, on)) ∙ is.next_own i low h (omega (arith, on)));
+      next_some = λ i j d o low less h same. rw (any i d (omega (arith, less, h))) (is.next_first i j low less h (rw (any i d (omega (arith, less, h)), any j o h) at same)).0;
+      next_first = λ i j d o low less h same. rw (any i d (omega (arith, less, h))) (is.next_first i j low less h (rw (any i d (omega (arith, less, h)), any j o h) at same)).1;
+    }
 
 -- a row goes before the later ones of its chain
-module _ (rows more : List Row) (heads wider : List ℕ) (p b : ℕ) (is : IsChained rows (p + 1) heads) (there : p < length rows)
-    (size : length more ≡ length rows) (count : length wider ≡ length heads) (within : b < length heads) (bucket : (d : Row) → bucket_of (kids_of (slice_index_or rows p d)) (length heads) ≡ b)
-    (kids : (i : ℕ) (d e : Row) → i < length rows → kids_of (slice_index_or more i d) ≡ kids_of (slice_index_or rows i e))
-    (next : (i : ℕ) (d : Row) → (i ≡ p → ⊥) → (slice_index_or more i d).next ≡ (slice_index_or rows i d).next)
-    (next_here : (d : Row) → (slice_index_or more p d).next ≡ slice_index heads b)
-    (head : (c : ℕ) → (c ≡ b → ⊥) → slice_index wider c ≡ slice_index heads c) (head_here : slice_index wider b ≡ p + 1) where
-  -- the chain of a row
-  at : (i : ℕ) (d e : Row) → i < length rows → bucket_of (kids_of (slice_index_or more i d)) (length wider) ≡ bucket_of (kids_of (slice_index_or rows i e)) (length heads)
-  at i d e h = ap₂ bucket_of (kids i d e h) count
+goes_before : {n p b count n' count' : ℕ} {bucket next head bucket' next' head' : ℕ → ℕ} → AreLinked n (p + 1) count bucket next head → p < n → b < count → bucket p ≡ b → n' ≡ n → count' ≡ count
+    → ((i : ℕ) → bucket' i ≡ bucket i) → ((i : ℕ) → ((i ≡ p) × (next' i ≡ head b)) ⊎ ((i ≡ p → ⊥) × (next' i ≡ next i)))
+    → ((c : ℕ) → ((c ≡ b) × (head' c ≡ p + 1)) ⊎ ((c ≡ b → ⊥) × (head' c ≡ head c))) → AreLinked n' p count' bucket' next' head'
+goes_before {n} {p} {b} {count} {n'} {count'} {bucket} {next} {head} {bucket'} {next'} {head'} is there within own size wide same links heads = record {
+  some = omega (arith, is.some);
+  head_in = λ c h. grind (arith, heads c, is.head_in c);
+  head_from = λ c h live. grind (arith, heads c, is.head_from c);
+  head_own = λ c h live. elim (heads c) [
+    | inl e ↦ ap bucket' (omega (arith, e.1)) ∙ same p ∙ own ∙ sym e.0
+    | inr e ↦ ap (λ m. bucket' (m - 1)) e.1 ∙ same _ ∙ is.head_own c (omega (arith, h, wide)) (omega (arith, live, e.1))
+  ];
+  head_first = λ i low h. grind (arith, heads (bucket' i), is.head_first i);
+  next_in = λ i low h. grind (arith, links i, is.next_in i, is.head_in b);
+  next_later = λ i low h live. grind (arith, links i, is.next_later i, is.head_from b);
+  next_own = λ i low h live. elim (links i) [
+    | inl e ↦ ap (λ m. bucket' (m - 1)) e.1 ∙ same _ ∙ is.head_own b within (omega (arith, live, e.1)) ∙ sym (ap bucket' e.0 ∙ same p ∙ own)
+    | inr e ↦ ap (λ m. bucket' (m - 1)) e.1 ∙ same _ ∙ is.next_own i (omega (arith, low, e.0)) (omega (arith, h, size)) (omega (arith, live, e.1)) ∙ sym (same i)
+  ];
+  next_first = λ i j low less h alike.
+      let old : bucket i ≡ bucket j = sym (same i) ∙ alike ∙ same j in
+      elim (links i) [
+        | inl e ↦ rw e.1 (subst (λ c. (0 < head c) × (head c ≤ j + 1)) (sym old ∙ ap bucket e.0 ∙ own) (is.head_first j (omega (arith, less, e.0)) (omega (arith, h, size))))
+        | inr e ↦ rw e.1 (is.next_first i j (omega (arith, low, e.0)) less (omega (arith, h, size)) old)
+      ];
+}
 
-  at_here : (d : Row) → bucket_of (kids_of (slice_index_or more p d)) (length wider) ≡ b
-  at_here d = at p d d there ∙ bucket d
+-- a row goes after all others of its chain, of which the k-th was the last
+goes_last : {n b k count n' count' : ℕ} {bucket next head bucket' next' head' : ℕ → ℕ} → AreLinked n 0 count bucket next head → b < count → n' ≡ n + 1 → count' ≡ count
+    → ((i : ℕ) → i < n → bucket' i ≡ bucket i) → bucket' n ≡ b → next' n ≡ 0
+    → (k < n) × (bucket k ≡ b) × (next k ≡ 0)
+    → ((i : ℕ) → i < n → ((i ≡ k) × (next' i ≡ n + 1)) ⊎ ((i ≡ k → ⊥) × (next' i ≡ next i))) → ((c : ℕ) → head' c ≡ head c) → AreLinked n' 0 count' bucket' next' head'
+goes_last {n} {b} {k} {count} {n'} {count'} {bucket} {next} {head} {bucket'} {next'} {head'} is within size wide old new ends last links same =
+    let leads : (i : ℕ) → i < n → bucket i ≡ b → (i ≡ k → ⊥) → 0 < next i = λ i h e f. elim (cases_lt i k) [
+      | inl g ↦ (is.next_first i k (omega arith) g last.0 (e ∙ sym last.1)).0
+      | inr g ↦ let back = is.next_first k i (omega arith) (omega (arith, g, f)) h (last.1 ∙ sym e) in absurd (omega (arith, back.0, last.2))
+    ] in
+    record {
+      some = omega (arith, is.some);
+      head_in = λ c h. grind (arith, is.head_in c);
+      head_from = λ c h live. omega arith;
+      head_own = λ c h live. grind (arith, is.head_in c, is.head_own c);
+      head_first = λ i low h. elim (cases_lt i n) [
+        | inl g ↦ rw (same (bucket' i), old i g) (is.head_first i (omega arith) g)
+        | inr g ↦
+            let at : bucket' i ≡ bucket k = ap bucket' (omega (arith, g, h, size)) ∙ new ∙ sym last.1 in
+            let first = is.head_first k (omega arith) last.0 in
+            rw (same (bucket' i), at) (first.0, omega (arith, first.1, last.0, g))
+      ];
+      next_in = λ i low h. elim (cases_lt i n) [
+        | inl g ↦ elim (links i g) [ inl e ↦ omega (arith, e.1, size) | inr e ↦ omega (arith, e.1, is.next_in i (omega arith) g, size) ]
+        | inr g ↦ grind (arith)
+      ];
+      next_later = λ i low h live. elim (cases_lt i n) [
+        | inl g ↦ elim (links i g) [ inl e ↦ omega (arith, e.1, g) | inr e ↦ omega (arith, e.1, is.next_later i (omega arith) g (omega (arith, live, e.1))) ]
+        | inr g ↦ grind (arith)
+      ];
+      next_own = λ i low h live. elim (cases_lt i n) [
+        | inl g ↦ elim (links i g) [
+          | inl e ↦ ap bucket' (omega (arith, e.1)) ∙ new ∙ sym (ap bucket' e.0 ∙ old k last.0 ∙ last.1)
+          | inr e ↦
+              ap (λ m. bucket' (m - 1)) e.1 ∙ old _ (omega (arith, is.next_in i (omega arith) g, live, e.1))
+              ∙ is.next_own i (omega arith) g (omega (arith, live, e.1)) ∙ sym (old i g)
+        ]
+        | inr g ↦ let z : i ≡ n = omega (arith, g, h, size) in absurd (omega (arith, live, ap next' z, ends))
+      ];
+      next_first = λ i j low less h alike.
+          let hi : i < n = omega (arith, less, h, size) in
+          elim (cases_lt j n) [
+            | inl g ↦
+                let first = is.next_first i j (omega arith) less g (sym (old i hi) ∙ alike ∙ old j g) in
+                elim (links i hi) [ inl e ↦ absurd (omega (arith, first.0, ap next e.0, last.2)) | inr e ↦ rw e.1 first ]
+            | inr g ↦ elim (links i hi) [
+              | inl e ↦ (omega (arith, e.1), omega (arith, e.1, g))
+              | inr e ↦ rw e.1 (leads i hi (sym (old i hi) ∙ alike ∙ ap bucket' (omega (arith, g, h, size)) ∙ new) e.0, omega (arith, is.next_in i (omega arith) hi, g))
+            ]
+          ];
+    }
 
-  place : (i : ℕ) (d : Row) → i ≡ p → bucket_of (kids_of (slice_index_or more i d)) (length wider) ≡ b
-  place i d e = ap (λ k. bucket_of (kids_of (slice_index_or more k d)) (length wider)) e ∙ at_here d
+-- a row begins its chain
+goes_first : {n b count n' count' : ℕ} {bucket next head bucket' next' head' : ℕ → ℕ} → AreLinked n 0 count bucket next head → b < count → head b ≡ 0 → n' ≡ n + 1 → count' ≡ count
+    → ((i : ℕ) → i < n → bucket' i ≡ bucket i) → bucket' n ≡ b → ((i : ℕ) → i < n → next' i ≡ next i) → next' n ≡ 0
+    → ((c : ℕ) → ((c ≡ b) × (head' c ≡ n + 1)) ⊎ ((c ≡ b → ⊥) × (head' c ≡ head c))) → AreLinked n' 0 count' bucket' next' head'
+goes_first {n} {b} {count} {n'} {count'} {bucket} {next} {head} {bucket'} {next'} {head'} is within empty size wide old new links ends heads =
+    let other : (i : ℕ) → i < n → bucket i ≡ b → ⊥ = λ i h e. grind (arith, is.head_first i) in
+    record {
+      some = omega (arith, is.some);
+      head_in = λ c h. grind (arith, heads c, is.head_in c);
+      head_from = λ c h live. omega arith;
+      head_own = λ c h live. grind (arith, heads c, is.head_in c, is.head_own c);
+      head_first = λ i low h. elim (cases_lt i n) [
+        | inl g ↦ elim (heads (bucket' i)) [ inl e ↦ absurd (other i g (sym (old i g) ∙ e.0)) | inr e ↦ rw (e.1, old i g) (is.head_first i (omega arith) g) ]
+        | inr g ↦ grind (arith, heads b)
+      ];
+      next_in = λ i low h. elim (cases_lt i n) [ inl g ↦ grind (arith, is.next_in i) | inr g ↦ grind (arith) ];
+      next_later = λ i low h live. elim (cases_lt i n) [ inl g ↦ grind (arith, is.next_later i) | inr g ↦ grind (arith) ];
+      next_own = λ i low h live. elim (cases_lt i n) [
+        | inl g ↦ grind (arith, is.next_in i, is.next_own i)
+        | inr g ↦ let z : i ≡ n = omega (arith, g, h, size) in absurd (omega (arith, live, ap next' z, ends))
+      ];
+      next_first = λ i j low less h same.
+          let hi : i < n = omega (arith, less, h, size) in
+          elim (cases_lt j n) [ inl g ↦ rw (links i hi) (is.next_first i j (omega arith) less g (sym (old i hi) ∙ same ∙ old j g)) | inr g ↦ absurd (other i hi (sym (old i hi) ∙ same ∙ ap bucket' (omega (arith, g, h, size)) ∙ new)) ];
+    }
 
-  here : (i : ℕ) (d : Row) → i ≡ p → (slice_index_or more i d).next ≡ slice_index heads b
-  here i d e = ap (λ k. (slice_index_or more k d).next) e ∙ next_here d
+-- what is read where one element is set
+reads_set : {A : Type 0} (xs : List A) (p : ℕ) (x : A) → p < length xs → (i : ℕ) (d : A)
+    → ((i ≡ p) × (slice_index_or (slice_set xs p x) i d ≡ x)) ⊎ ((i ≡ p → ⊥) × (slice_index_or (slice_set xs p x) i d ≡ slice_index_or xs i d))
+reads_set xs p x there i d = elim (cases_eq i p) [
+  | inl e ↦ inl (e, ap (λ k. slice_index_or (slice_set xs p x) k d) e ∙ get_or-set_same xs p x d there)
+  | inr f ↦ inr (f, get_or-set_other xs p i x d f)
+]
 
-  above : (i : ℕ) → p ≤ i → (i ≡ p → ⊥) → p + 1 ≤ i
-  above i from f = elim (cases_lt p i) [
-    | inl h ↦ omega (arith, h)
-    | inr h ↦ absurd (f (omega (arith, h, from)))
-  ]
-
-  -- a row on another chain
-  later : (i : ℕ) (d : Row) → p ≤ i → (bucket_of (kids_of (slice_index_or more i d)) (length wider) ≡ b → ⊥) → p + 1 ≤ i
-  later i d from f = above i from (λ e. f (place i d e))
-
-  -- rows of one chain were of one before
-  kept : (i j : ℕ) (d e : Row) → i < j → j < length rows
-      → bucket_of (kids_of (slice_index_or more i d)) (length wider) ≡ bucket_of (kids_of (slice_index_or more j e)) (length wider)
-      → bucket_of (kids_of (slice_index_or rows i d)) (length heads) ≡ bucket_of (kids_of (slice_index_or rows j e)) (length heads)
-  kept i j d e less h same = sym (at i d d (omega (arith, less, h))) ∙ same ∙ at j e e h
-
-  meets : (i j : ℕ) (d e : Row) → i ≡ p → j < length rows
-      → bucket_of (kids_of (slice_index_or more i d)) (length wider) ≡ bucket_of (kids_of (slice_index_or more j e)) (length wider)
-      → bucket_of (kids_of (slice_index_or rows j e)) (length heads) ≡ b
-  meets i j d e f h same = sym (at j e e h) ∙ sym same ∙ place i d f
-
-  pub goes_before : IsChained more p wider
-  goes_before = record {
-    some = omega (arith, is.some, count);
-    head_in = λ c h. elim (cases_eq c b) [
-      | inl e ↦ omega (arith, ap (slice_index wider) e, head_here, there, size)
-      | inr f ↦ omega (arith, head c f, is.head_in c (omega (arith, h, count)), size)
-    ];
-    head_from = λ c i h e. elim (cases_eq c b) [
-      | inl f ↦ omega (arith, ap (slice_index wider) f, head_here, e)
-      | inr f ↦ omega (arith, is.head_from c i (omega (arith, h, count)) (sym (head c f) ∙ e))
-    ];
-    head_own = λ c i d h e. elim (cases_eq c b) [
-      | inl f ↦ ap (λ k. bucket_of (kids_of (slice_index_or more k d)) (length wider)) (omega (arith, ap (slice_index wider) f, head_here, e)) ∙ at_here d ∙ sym f
-      | inr f ↦
-          let old = sym (head c f) ∙ e in
-          let low = is.head_in c (omega (arith, h, count)) in
-          at i d d (omega (arith, old, low)) ∙ is.head_own c i d (omega (arith, h, count)) old
-    ];
-    head_some = λ i d from h. elim (cases_eq (bucket_of (kids_of (slice_index_or more i d)) (length wider)) b) [
-      | inl e ↦ omega (arith, ap (slice_index wider) e, head_here)
-      | inr f ↦ omega (arith, head _ f, ap (slice_index heads) (at i d d (omega (arith, h, size))), is.head_some i d (later i d from f) (omega (arith, h, size)))
-    ];
-    head_first = λ i d from h. elim (cases_eq (bucket_of (kids_of (slice_index_or more i d)) (length wider)) b) [
-      | inl e ↦ omega (arith, ap (slice_index wider) e, head_here, from)
-      | inr f ↦ omega (arith, head _ f, ap (slice_index heads) (at i d d (omega (arith, h, size))), is.head_first i d (later i d from f) (omega (arith, h, size)))
-    ];
-    next_in = λ i d from h. elim (cases_eq i p) [
-      | inl e ↦ omega (arith, here i d e, is.head_in b within, size)
-      | inr f ↦ omega (arith, next i d f, is.next_in i d (above i from f) (omega (arith, h, size)), size)
-    ];
-    next_later = λ i j d from h e. elim (cases_eq i p) [
-      | inl f ↦ omega (arith, is.head_from b j within (sym (here i d f) ∙ e), f)
-      | inr f ↦ is.next_later i j d (above i from f) (omega (arith, h, size)) (sym (next i d f) ∙ e)
-    ];
-    next_own = λ i j d o from h e. elim (cases_eq i p) [
-      | inl f ↦
-          let old = sym (here i d f) ∙ e in
-          at j o o (omega (arith, is.head_in b within, old)) ∙ is.head_own b j o within old ∙ sym (place i d f)
-      | inr f ↦
-          let old = sym (next i d f) ∙ e in
-          let low = is.next_in i d (above i from f) (omega (arith, h, size)) in
-          at j o o (omega (arith, low, old)) ∙ is.next_own i j d o (above i from f) (omega (arith, h, size)) old ∙ sym (at i d d (omega (arith, h, size)))
-    ];
-    next_some = λ i j d o from less h same. elim (cases_eq i p) [
-      | inl f ↦ omega (arith, here i d f, ap (slice_index heads) (meets i j d o f (omega (arith, h, size)) same), is.head_some j o (omega (arith, less, f)) (omega (arith, h, size)))
-      | inr f ↦ omega (arith, next i d f, is.next_some i j d o (above i from f) less (omega (arith, h, size)) (kept i j d o less (omega (arith, h, size)) same))
-    ];
-    next_first = λ i j d o from less h same. elim (cases_eq i p) [
-      | inl f ↦ omega (arith, here i d f, ap (slice_index heads) (meets i j d o f (omega (arith, h, size)) same), is.head_first j o (omega (arith, less, f)) (omega (arith, h, size)))
-      | inr f ↦ omega (arith, next i d f, is.next_first i j d o (above i from f) less (omega (arith, h, size)) (kept i j d o less (omega (arith, h, size)) same))
-    ];
-  }
+-- a row with another link
+abbrev pub linked : List Row → ℕ → ℕ → Row
+linked rows p next = record { kids = (slice_index_or rows p none).kids; next = next }
 
 -- a row that is set on the chain of its quadrants
 pub before_all : (rows : List Row) (heads : List ℕ) (p b : ℕ) → IsChained rows (p + 1) heads → p < length rows → b < length heads
-    → b ≡ bucket_of (kids_of (slice_index_or rows p (record { kids = []; next = 0 }))) (length heads)
+    → b ≡ bucket_of (kids_of (slice_index_or rows p none)) (length heads)
     → IsChained (slice_set rows p (linked rows p (slice_index heads b))) p (slice_set heads b (p + 1))
 before_all rows heads p b is there within bucket =
     let r = linked rows p (slice_index heads b) in
-    let own : (d : Row) → slice_index_or rows p d ≡ slice_index_or rows p (record { kids = []; next = 0 }) = λ d. get_or_default rows p d _ there in
-    let here : (d : Row) → slice_index_or (slice_set rows p r) p d ≡ r = λ d. get_or-set_same rows p r d there in
-    goes_before rows (slice_set rows p r) heads (slice_set heads b (p + 1)) p b is there (length-set rows p r) (length-set heads b (p + 1)) within
-    (λ d. ap (λ (q : Row). bucket_of (kids_of q) (length heads)) (own d) ∙ sym bucket)
-    (λ i d e h. elim (cases_eq i p) [
-      | inl f ↦ ap (λ k. kids_of (slice_index_or (slice_set rows p r) k d)) f ∙ ap kids_of (here d) ∙ sym (ap kids_of (own e)) ∙ sym (ap (λ k. kids_of (slice_index_or rows k e)) f)
-      | inr f ↦ ap kids_of (get_or-set_other rows p i r d f) ∙ ap kids_of (get_or_default rows i d e h)
-    ])
-    (λ i d f. ap (λ (q : Row). q.next) (get_or-set_other rows p i r d f)) (λ d. ap (λ (q : Row). q.next) (here d))
-    (λ c f. get_or-set_other heads b c (p + 1) 0 f) (get_or-set_same heads b (p + 1) 0 within)
-
-kept_kids : (rows : List Row) (p : ℕ) → slice_set (map kids_of rows) p (slice_index_or rows p (record { kids = []; next = 0 })).kids ≡ map kids_of rows
-kept_kids [] p = refl
-kept_kids (r ∷ rows) zero = refl
-kept_kids (r ∷ rows) (suc p) = ap (λ ks. kids_of r ∷ ks) (kept_kids rows p)
-
--- a link that is set leaves the quadrants
-pub same_kids : (rows : List Row) (p next : ℕ) → map kids_of (slice_set rows p (linked rows p next)) ≡ map kids_of rows
-same_kids rows p next = map-set kids_of rows p (linked rows p next) ∙ kept_kids rows p
-
--- a row goes after all others of its chain
-module _ (rows more : List Row) (heads wider : List ℕ) (b last : ℕ) (is : IsChained rows 0 heads) (ends : IsLast rows heads b last) (within : b < length heads)
-    (size : length more ≡ length rows + 1) (count : length wider ≡ length heads)
-    (kids : (i : ℕ) (d e : Row) → i < length rows → kids_of (slice_index_or more i d) ≡ kids_of (slice_index_or rows i e))
-    (bucket : (d : Row) → bucket_of (kids_of (slice_index_or more (length rows) d)) (length wider) ≡ b)
-    (next : (i : ℕ) (d : Row) → i < length rows → (last ≡ i + 1 → ⊥) → (slice_index_or more i d).next ≡ (slice_index_or rows i d).next)
-    (next_last : (i : ℕ) (d : Row) → last ≡ i + 1 → (slice_index_or more i d).next ≡ length rows + 1)
-    (next_new : (d : Row) → (slice_index_or more (length rows) d).next ≡ 0)
-    (head : (c : ℕ) → (c ≡ b → ⊥) → slice_index wider c ≡ slice_index heads c) (head_some : 0 < last → slice_index wider b ≡ slice_index heads b)
-    (head_new : last ≡ 0 → slice_index wider b ≡ length rows + 1) where
-  -- the chain of a row
-  old_at : (i : ℕ) (d e : Row) → i < length rows → bucket_of (kids_of (slice_index_or more i d)) (length wider) ≡ bucket_of (kids_of (slice_index_or rows i e)) (length heads)
-  old_at i d e h = ap₂ bucket_of (kids i d e h) count
-
-  new_at : (i : ℕ) (d : Row) → i ≡ length rows → bucket_of (kids_of (slice_index_or more i d)) (length wider) ≡ b
-  new_at i d e = ap (λ k. bucket_of (kids_of (slice_index_or more k d)) (length wider)) e ∙ bucket d
-
-  ends_new : (i : ℕ) (d : Row) → i ≡ length rows → (slice_index_or more i d).next ≡ 0
-  ends_new i d e = ap (λ k. (slice_index_or more k d).next) e ∙ next_new d
-
-  -- a head is as before, or it is the new row's and was none
-  head_is : (c : ℕ) → (slice_index wider c ≡ slice_index heads c) ⊎ ((slice_index wider c ≡ length rows + 1) × (slice_index heads c ≡ 0) × (c ≡ b))
-  head_is c = elim (cases_eq c b) [
-    | inl e ↦ elim (cases_eq last 0) [
-      | inl f ↦ inr (ap (slice_index wider) e ∙ head_new f, ap (slice_index heads) e ∙ ends.none f, e)
-      | inr f ↦ inl (ap (slice_index wider) e ∙ head_some (omega (arith, f)) ∙ sym (ap (slice_index heads) e))
-    ]
-    | inr f ↦ inl (head c f)
-  ]
-
-  -- the rows before the new one on its chain
-  module _ (i j : ℕ) (d e : Row) (h : i < length rows) (new : j ≡ length rows)
-      (same : bucket_of (kids_of (slice_index_or more i d)) (length wider) ≡ bucket_of (kids_of (slice_index_or more j e)) (length wider)) where
-    meets_new : bucket_of (kids_of (slice_index_or rows i d)) (length heads) ≡ b
-    meets_new = sym (old_at i d d h) ∙ same ∙ new_at j e new
-
-    -- so the chain isn't empty
-    some_last : last ≡ 0 → ⊥
-    some_last f = omega (arith, is.head_some i d (omega arith) h, ap (slice_index heads) meets_new, ends.none f)
-
-    leads_on : (last ≡ i + 1 → ⊥) → 0 < (slice_index_or rows i d).next
-    leads_on f =
-        let k = last - 1 in
-        let is_last : last ≡ k + 1 = omega (arith, some_last) in
-        let one_chain : bucket_of (kids_of (slice_index_or rows i d)) (length heads) ≡ bucket_of (kids_of (slice_index_or rows k d)) (length heads) = meets_new ∙ sym (ends.own k d is_last) in
-        elim (cases_lt i k) [
-          | inl g ↦ is.next_some i k d d (omega arith) g (omega (arith, is_last, ends.within)) one_chain
-          | inr g ↦ elim (cases_eq i k) [
-            | inl e ↦ absurd (f (omega (arith, is_last, e)))
-            | inr e ↦ absurd (omega (arith, is.next_some k i d d (omega arith) (omega (arith, g, e)) h (sym one_chain), ends.ends k d is_last))
-          ]
-        ]
-
-  -- a link is as before, or it leads from the last row to the new one, or it is the new row's
-  next_is : (i : ℕ) (d : Row) → i < length more
-      → ((i < length rows) × (last ≡ i + 1 → ⊥) × ((slice_index_or more i d).next ≡ (slice_index_or rows i d).next))
-      ⊎ (((last ≡ i + 1) × ((slice_index_or more i d).next ≡ length rows + 1)) ⊎ ((i ≡ length rows) × ((slice_index_or more i d).next ≡ 0)))
-  next_is i d h = elim (cases_lt i (length rows)) [
-    | inl g ↦ elim (cases_eq last (i + 1)) [
-      | inl e ↦ inr (inl (e, next_last i d e))
-      | inr e ↦ inl (g, e, next i d g e)
-    ]
-    | inr g ↦ let new : i ≡ length rows = omega (arith, g, h, size) in inr (inr (new, ends_new i d new))
-  ]
-
-  -- rows of one chain were of one before
-  stay : (i j : ℕ) (d e : Row) → i < j → j < length rows
-      → bucket_of (kids_of (slice_index_or more i d)) (length wider) ≡ bucket_of (kids_of (slice_index_or more j e)) (length wider)
-      → bucket_of (kids_of (slice_index_or rows i d)) (length heads) ≡ bucket_of (kids_of (slice_index_or rows j e)) (length heads)
-  stay i j d e less h same = sym (old_at i d d (omega (arith, less, h))) ∙ same ∙ old_at j e e h
-
-  pub goes_last : IsChained more 0 wider
-  goes_last = record {
-    some = omega (arith, is.some, count);
-    head_in = λ c h. elim (head_is c) [
-      | inl e ↦ omega (arith, e, is.head_in c (omega (arith, h, count)), size)
-      | inr e ↦ omega (arith, e.0, size)
-    ];
-    head_from = λ c i h e. omega arith;
-    head_own = λ c i d h e. elim (head_is c) [
-      | inl f ↦
-          let old = sym f ∙ e in
-          let low = is.head_in c (omega (arith, h, count)) in
-          old_at i d d (omega (arith, old, low)) ∙ is.head_own c i d (omega (arith, h, count)) old
-      | inr f ↦ new_at i d (omega (arith, e, f.0)) ∙ sym f.2
-    ];
-    head_some = λ i d from h. elim (cases_lt i (length rows)) [
-      | inl g ↦ elim (head_is (bucket_of (kids_of (slice_index_or more i d)) (length wider))) [
-        | inl e ↦ omega (arith, e, ap (slice_index heads) (old_at i d d g), is.head_some i d (omega arith) g)
-        | inr e ↦ omega (arith, e.0)
-      ]
-      | inr g ↦ elim (cases_eq last 0) [
-        | inl e ↦ omega (arith, ap (slice_index wider) (new_at i d (omega (arith, g, h, size))), head_new e)
-        | inr e ↦
-            let k = last - 1 in
-            let is_last : last ≡ k + 1 = omega (arith, e) in
-            let one = ap (slice_index wider) (new_at i d (omega (arith, g, h, size))) in
-            omega (arith, one, head_some (omega (arith, e)), ap (slice_index heads) (ends.own k d is_last), is.head_some k d (omega arith) (omega (arith, is_last, ends.within)))
-      ]
-    ];
-    head_first = λ i d from h. elim (cases_lt i (length rows)) [
-      | inl g ↦ elim (head_is (bucket_of (kids_of (slice_index_or more i d)) (length wider))) [
-        | inl e ↦ omega (arith, e, ap (slice_index heads) (old_at i d d g), is.head_first i d (omega arith) g)
-        | inr e ↦ absurd (omega (arith, e.1, ap (slice_index heads) (old_at i d d g), is.head_some i d (omega arith) g))
-      ]
-      | inr g ↦ elim (head_is (bucket_of (kids_of (slice_index_or more i d)) (length wider))) [
-        | inl e ↦ omega (arith, e, g, ap (slice_index heads) (new_at i d (omega (arith, g, h, size))), is.head_in b within)
-        | inr e ↦ omega (arith, e.0, g)
-      ]
-    ];
-    next_in = λ i d from h. elim (next_is i d h) [
-      | inl e ↦ omega (arith, e.2, is.next_in i d (omega arith) e.0, size)
-      | inr (inl e) ↦ omega (arith, e.1, size)
-      | inr (inr e) ↦ omega (arith, e.1)
-    ];
-    next_later = λ i j d from h g. elim (next_is i d h) [
-      | inl e ↦ is.next_later i j d (omega arith) e.0 (sym e.2 ∙ g)
-      | inr (inl e) ↦ omega (arith, e.0, e.1, g, ends.within)
-      | inr (inr e) ↦ absurd (omega (arith, e.1, g))
-    ];
-    next_own = λ i j d o from h g. elim (next_is i d h) [
-      | inl e ↦
-          let old = sym e.2 ∙ g in
-          let low = is.next_in i d (omega arith) e.0 in
-          old_at j o o (omega (arith, old, low)) ∙ is.next_own i j d o (omega arith) e.0 old ∙ sym (old_at i d d e.0)
-      | inr (inl e) ↦ new_at j o (omega (arith, e.1, g)) ∙ sym (old_at i d d (omega (arith, e.0, ends.within)) ∙ ends.own i d e.0)
-      | inr (inr e) ↦ absurd (omega (arith, e.1, g))
-    ];
-    next_some = λ i j d o from less h same. elim (next_is i d (omega (arith, less, h))) [
-      | inl e ↦ elim (cases_lt j (length rows)) [
-        | inl g ↦ omega (arith, e.2, is.next_some i j d o (omega arith) less g (stay i j d o less g same))
-        | inr g ↦ omega (arith, e.2, leads_on i j d o e.0 (omega (arith, g, h, size)) same e.1)
-      ]
-      | inr (inl e) ↦ omega (arith, e.1)
-      | inr (inr e) ↦ absurd (omega (arith, e.0, less, h, size))
-    ];
-    next_first = λ i j d o from less h same. elim (next_is i d (omega (arith, less, h))) [
-      | inl e ↦ elim (cases_lt j (length rows)) [
-        | inl g ↦ omega (arith, e.2, is.next_first i j d o (omega arith) less g (stay i j d o less g same))
-        | inr g ↦ omega (arith, e.2, is.next_in i d (omega arith) e.0, g)
-      ]
-      | inr (inl e) ↦ elim (cases_lt j (length rows)) [
-        | inl g ↦ absurd (omega (arith, ends.ends i d e.0, is.next_some i j d o (omega arith) less g (stay i j d o less g same)))
-        | inr g ↦ omega (arith, e.1, g)
-      ]
-      | inr (inr e) ↦ absurd (omega (arith, e.0, less, h, size))
-    ];
-  }
-
--- one more row, at the end
-module _ (rows : List Row) (r : Row) where
-  old_row : (i : ℕ) (d e : Row) → i < length rows → slice_index_or (rows ++ r ∷ []) i d ≡ slice_index_or rows i e
-  old_row i d e h = get_or_append_left rows (r ∷ []) d i h ∙ get_or_default rows i d e h
-
-  new_row : (d : Row) → slice_index_or (rows ++ r ∷ []) (length rows) d ≡ r
-  new_row d = get_or_push rows r d (length rows) refl
+    let at = λ (i : ℕ). reads_set rows p r there i none in
+    let wide = length-set heads b (p + 1) in
+    chained_by _ p _ (goes_before (linked_by rows (p + 1) heads is) there within (sym bucket) (length-set rows p r) wide
+    (λ i. grind (arith, at i, wide)) (λ i. grind (arith, at i)) (λ c. reads_set heads b (p + 1) within c 0))
 
 -- a row that begins its chain
-pub begins : (rows : List Row) (heads : List ℕ) (r : Row) (b last : ℕ) → IsChained rows 0 heads → IsLast rows heads b last → b < length heads
-    → bucket_of (kids_of r) (length heads) ≡ b → r.next ≡ 0 → last ≡ 0 → IsChained (rows ++ r ∷ []) 0 (slice_set heads b (length rows + 1))
-begins rows heads r b last is ends within bucket next none =
-    goes_last rows (rows ++ r ∷ []) heads (slice_set heads b (length rows + 1)) b last is ends within (length-more rows r) (length-set heads b (length rows + 1))
-    (λ i d e h. ap kids_of (old_row rows r i d e h))
-    (λ d. ap₂ bucket_of (ap kids_of (new_row rows r d)) (length-set heads b (length rows + 1)) ∙ bucket)
-    (λ i d h f. ap (λ (q : Row). q.next) (old_row rows r i d d h)) (λ i d e. absurd (omega (arith, e, none)))
-    (λ d. ap (λ (q : Row). q.next) (new_row rows r d) ∙ next)
-    (λ c f. get_or-set_other heads b c (length rows + 1) 0 f) (λ h. absurd (omega (arith, h, none))) (λ e. get_or-set_same heads b (length rows + 1) 0 within)
+pub begins : (rows new : List Row) (heads kids : List ℕ) (b last n : ℕ) → IsChained rows 0 heads → IsLast rows heads b last → b < length heads → b ≡ bucket_of kids (length heads)
+    → new ≡ rows ++ record { kids = kids; next = 0 } ∷ [] → n ≡ length new → last ≡ 0 → IsChained new 0 (slice_set heads b n)
+begins rows new heads kids b last n is ends within bucket added number first =
+    let r : Row = record { kids = kids; next = 0 } in
+    let size : length new ≡ length rows + 1 = ap length added ∙ length_push rows r in
+    let old : (i : ℕ) → i < length rows → slice_index_or new i none ≡ slice_index_or rows i none = λ i h. grind (arith, get_or_append_left rows (r ∷ []) none i h) in
+    let at : slice_index_or new (length rows) none ≡ r = grind (arith, get_or_push rows r none (length rows) refl) in
+    let wide = length-set heads b n in
+    chained_by _ 0 _ (goes_first (linked_by rows 0 heads is) within (ends.none first) size wide
+    (λ i h. grind (arith, old i, wide)) (grind (arith, at, wide)) (λ i h. grind (arith, old i)) (grind (arith, at)) (λ c. grind (arith, reads_set heads b n within c 0)))
 
--- a row that the last of its chain leads to
-pub follows : (rows : List Row) (heads : List ℕ) (r : Row) (b last : ℕ) → IsChained rows 0 heads → IsLast rows heads b last → b < length heads
-    → bucket_of (kids_of r) (length heads) ≡ b → r.next ≡ 0 → 0 < last
-    → IsChained (slice_set (rows ++ r ∷ []) (last - 1) (linked (rows ++ r ∷ []) (last - 1) (length rows + 1))) 0 heads
-follows rows heads r b last is ends within bucket next some =
+-- a row that the last of its chain leads to, whose link is set
+pub follows : (rows new : List Row) (heads kids : List ℕ) (b last n : ℕ) (d : Row) → IsChained rows 0 heads → IsLast rows heads b last → b < length heads → b ≡ bucket_of kids (length heads)
+    → new ≡ rows ++ record { kids = kids; next = 0 } ∷ [] → n ≡ length new → (last ≡ 0 → ⊥) → d ≡ slice_index_or new (last - 1) d → IsChained (slice_set new (last - 1) (record { kids = d.kids; next = n })) 0 heads
+follows rows new heads kids b last n d is ends within bucket added number some read =
+    let r : Row = record { kids = kids; next = 0 } in
     let p = last - 1 in
-    let old = rows ++ r ∷ [] in
-    let there : p < length rows = omega (arith, some, ends.within) in
-    let size = length-more rows r in
-    let q = linked old p (length rows + 1) in
-    let here : (d : Row) → slice_index_or (slice_set old p q) p d ≡ q = λ d. get_or-set_same old p q d (omega (arith, there, size)) in
-    let other : (i : ℕ) (d : Row) → (i ≡ p → ⊥) → slice_index_or (slice_set old p q) i d ≡ slice_index_or old i d = λ i d f. get_or-set_other old p i q d f in
-    let new : (d : Row) → slice_index_or (slice_set old p q) (length rows) d ≡ r = λ d. other (length rows) d (λ e. omega (arith, e, there)) ∙ new_row rows r d in
-    goes_last rows (slice_set old p q) heads heads b last is ends within (length-set old p q ∙ size) refl
-    (λ i d e h. elim (cases_eq i p) [
-      | inl f ↦ ap (λ k. kids_of (slice_index_or (slice_set old p q) k d)) f ∙ ap kids_of (here d) ∙ ap kids_of (old_row rows r p _ e there) ∙ sym (ap (λ k. kids_of (slice_index_or rows k e)) f)
-      | inr f ↦ ap kids_of (other i d f ∙ old_row rows r i d e h)
-    ])
-    (λ d. ap (λ s. bucket_of (kids_of s) (length heads)) (new d) ∙ bucket)
-    (λ i d h f. ap (λ (s : Row). s.next) (other i d (λ e. f (omega (arith, e, some))) ∙ old_row rows r i d d h))
-    (λ i d e. ap (λ k. (slice_index_or (slice_set old p q) k d).next) (omega (arith, e)) ∙ ap (λ (s : Row). s.next) (here d))
-    (λ d. ap (λ (s : Row). s.next) (new d) ∙ next)
-    (λ c f. refl) (λ h. refl) (λ e. absurd (omega (arith, e, some)))
+    let q : Row = record { kids = d.kids; next = n } in
+    let is_last : last ≡ p + 1 = omega (arith, some) in
+    let there : p < length rows = omega (arith, is_last, ends.within) in
+    let size : length new ≡ length rows + 1 = ap length added ∙ length_push rows r in
+    let old : (i : ℕ) → i < length rows → slice_index_or new i none ≡ slice_index_or rows i none = λ i h. grind (arith, get_or_append_left rows (r ∷ []) none i h) in
+    let at : slice_index_or new (length rows) none ≡ r = grind (arith, get_or_push rows r none (length rows) refl) in
+    let own : d ≡ slice_index_or rows p none = read ∙ get_or_default new p d none (omega (arith, size, there)) ∙ old p there in
+    let set = λ (i : ℕ). reads_set new p q (omega (arith, there, size)) i none in
+    chained_by _ 0 _ (goes_last {k = p} (linked_by rows 0 heads is) within (length-set new p q ∙ size) refl
+    (λ i h. grind (arith, old i, set i, own)) (grind (arith, at, set (length rows))) (grind (arith, at, set (length rows)))
+    (there, ends.own p none is_last, ends.ends p none is_last) (λ i h. grind (arith, old i, set i)) (λ c. refl))
+
+-- a link that is set leaves the quadrants
+pub same_kids : (rows : List Row) (p n : ℕ) (d : Row) → p < length rows → d ≡ slice_index_or rows p d → map kids_of (slice_set rows p (record { kids = d.kids; next = n })) ≡ map kids_of rows
+same_kids rows p n d h e =
+    map-set kids_of rows p (record { kids = d.kids; next = n }) ∙ ap (slice_set (map kids_of rows) p) (ap kids_of e ∙ sym (get_or-map kids_of rows p d [] h)) ∙ set-get_or (map kids_of rows) p []

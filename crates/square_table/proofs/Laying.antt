@@ -1,5 +1,5 @@
 -- Squares of a table with a quadtree laid on them.
-use Rattle.std.proofs.Common.{◌≡◌, ℕ, zero, suc, ◌+◌, ◌-◌, ◌^◌, ◌<◌, nat_lt, true, false, cond, List, [], ◌∷◌, length, get_or, get_or-set_same, get_or-set_other, None, unwrap_or, ℤ, pos, ◌+ℤ◌, Result, Ok, Err, sym, ap, ap₂, ◌∙◌, subst, arith, lit<}
+use Rattle.std.proofs.Common.{◌≡◌, ℕ, zero, suc, ◌+◌, ◌-◌, ◌^◌, ◌<◌, nat_lt, true, false, cond, List, [], ◌∷◌, length, get_or, get_or-set_same, get_or-set_other, None, unwrap_or, ℤ, pos, ◌+ℤ◌, Result, sym, ap, ap₂, ◌∙◌, subst, arith, lit<}
 use Rattle.std.specs.Prelude.{IfOk}
 use Rattle.std.proofs.lemmas.Int.{ints}
 use Rattle.std.proofs.lemmas.Bool.Decides.{nat_tests}
@@ -28,10 +28,7 @@ abbrev Says : Cells → ℕ → ℤ → ℤ → Quadtree → Type 0
 Says c k x y t = (u v : ℕ) → u < 2 ^ k → v < 2 ^ k → at t k u v ≡ state_at c (x +ℤ pos u) (y +ℤ pos v)
 
 here : (c : Cells) (x y : ℤ) → state_at c (x +ℤ pos 0) (y +ℤ pos 0) ≡ state_at c x y
-here c x y =
-    let p : (x +ℤ pos 0) ≡ x = omega (arith, ints) in
-    let q : (y +ℤ pos 0) ≡ y = omega (arith, ints) in
-    ap₂ (state_at c) p q
+here c x y = grind (arith)
 
 -- a cell of a quadrant as one of the square
 moved : (z : ℤ) (m u : ℕ) → ((z +ℤ pos m) +ℤ pos u) ≡ (z +ℤ pos (m + u))
@@ -114,10 +111,7 @@ laid-says c (suc k) x y (quad t0 t1 t2 t3) (four nw ne sw se) h level says =
 
 -- the state of a cell is its number
 pub laid-cell : (old new : List (List ℕ)) (k m s : ℕ) → k ≡ 0 → s < first_number → IsLaidAs (cell s) old k m new s
-laid-cell old new k m s e h = record {
-  number = subst (λ j. IsNumber new j s) (sym e) (IsNumber-state new s h);
-  square = ap (λ j. square_in new j s) e ∙ square_in-cell new s;
-}
+laid-cell old new k m s e h = grind (arith, IsNumber-state, square_in-cell)
 
 -- the numbers of the quadrants
 pub quadrants_of : (rows : List (List ℕ)) (k j n : ℕ) (kids : List ℕ) → k ≡ suc j → IsNumber rows k n → kids ≡ kids_at rows n → AreNumbers rows j kids
@@ -148,10 +142,7 @@ laid-keep old new k n grows h = record { number = IsNumber-grows old new k n gro
 pub laid-four : (a b c d : Quadtree) (old new : List (List ℕ)) (k : ℕ) (kids all : List ℕ)
     → IsLaidAs a old k (get_or kids 0 0) new (get_or all 0 0) → IsLaidAs b old k (get_or kids 1 0) new (get_or all 1 0)
     → IsLaidAs c old k (get_or kids 2 0) new (get_or all 2 0) → IsLaidAs d old k (get_or kids 3 0) new (get_or all 3 0) → AreLaidAs (quad a b c d) old k kids new all
-laid-four a b c d old new k kids all p q r s = record {
-  numbers = record { nw = p.number; ne = q.number; sw = r.number; se = s.number };
-  squares = let e = p.square in let f = q.square in let g = r.square in let h = s.square in λ i. four (e i) (f i) (g i) (h i);
-}
+laid-four a b c d old new k kids all p q r s = grind (arith)
 
 -- a quadtree laid on one of four squares
 pub laid-quadrant : (t : Quadtree) (old new : Table) (k q n : ℕ) (kids : List ℕ) → q < 4 → length kids ≡ 4 → AreNumbers old.rows k kids → Grows old new
@@ -194,9 +185,7 @@ in_turn a b c d t0 t1 t2 t3 t4 k kids nw ne sw se are g1 g2 g3 g4 p q r s =
 -- the square that is joined of them
 pub joined-laid : {E : Type 0} (r : Result ℕ E) (t u : Quadtree) (old new last : Table) (k m : ℕ) (kids all : List ℕ) → 0 < k → u ≡ t → kids ≡ kids_at old.rows m → AreLaidAs t old.rows (k - 1) kids new.rows all → Grows new last
     → IfOk r (IsSquareOf last.rows all) → IfOk r (IsLaidAs u old.rows k m last.rows)
-joined-laid (Err e) t u old new last k m kids all low same is are grows joined = tt
-joined-laid (Ok n) t u old new last k m kids all low same is are grows joined =
-    subst (λ v. IsLaidAs v old.rows k m last.rows n) (sym same) (laid-joined t old new last k (k - 1) m n kids all (omega (arith, low)) is are grows joined)
+joined-laid q0 q1 q2 q3 q4 q5 q6 q7 q8 q9 q10 q11 q12 q13 q14 q15 = grind (arith, laid-joined)
 
 -- a cell of the level of a square is laid on all of it
 pub laid-state : (t : Quadtree) (old new : List (List ℕ)) (k m s : ℕ) → t ≡ cell s → HasLevel k t → s < first_number → IsLaidAs t old k m new s

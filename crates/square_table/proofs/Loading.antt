@@ -44,35 +44,18 @@ pub GrowsFrom-same : (level : ℕ) (squares : List SquareRow) (t : Table) → Gr
 GrowsFrom-same level squares t = record { grows = Grows-same t; states = λ c some below h. h; among = λ all empty listed h. h }
 
 pub GrowsFrom-then : (level : ℕ) (squares : List SquareRow) (t u v : Table) → GrowsFrom level squares t u → GrowsFrom level squares u v → GrowsFrom level squares t v
-GrowsFrom-then level squares t u v first second = record {
-  grows = Grows-then t u v first.grows second.grows;
-  states = λ c some below h. second.states c some below (first.states c some below h);
-  among = λ all empty listed h. second.among all empty listed (first.among all empty listed h);
-}
+GrowsFrom-then level squares t u v first second = grind (arith, Grows-then)
 
 -- empty squares of more levels
 pub GrowsFrom-higher : (low high : ℕ) (squares : List SquareRow) (t u : Table) → low ≤ high → GrowsFrom low squares t u → GrowsFrom high squares t u
-GrowsFrom-higher low high squares t u le is = record {
-  grows = is.grows;
-  states = is.states;
-  among = λ all empty. is.among all (λ j some below. empty j some (omega (arith, below, le)));
-}
+GrowsFrom-higher low high squares t u le is = grind (arith)
 
 -- squares of a plane, and before them empty ones alone
 pub GrowsFrom-behind : (level : ℕ) (squares : List SquareRow) (t u v : Table) → GrowsFrom level [] t u → GrowsFrom level squares u v → GrowsFrom level squares t v
-GrowsFrom-behind level squares t u v first second = record {
-  grows = Grows-then t u v first.grows second.grows;
-  states = λ c some below h. second.states c some below (first.states c some (λ i q lt. absurd (omega (arith, lt))) h);
-  among = λ all empty listed h. second.among all empty listed (first.among all empty (λ i lt. absurd (omega (arith, lt))) h);
-}
+GrowsFrom-behind level squares t u v first second = grind (arith, Grows-then)
 
 states-more : (c : ℕ) (rows : List (List ℕ)) (kids : List ℕ) → ((q : ℕ) → q < 4 → get_or kids q 0 < first_number → get_or kids q 0 < c) → AllStatesBelow c rows → AllStatesBelow c (rows ++ kids ∷ [])
-states-more c rows kids new old = record {
-  each = λ i q lt hq. elim (cases_lt i (length rows)) [
-    | inl before ↦ subst (λ (ks : List ℕ). get_or ks q 0 < first_number → get_or ks q 0 < c) (sym (kept_row rows kids i before)) (old.each i q before hq)
-    | inr after ↦ subst (λ (ks : List ℕ). get_or ks q 0 < first_number → get_or ks q 0 < c) (sym (last_row rows kids i (omega (arith, lt, length_push rows kids)))) (new q hq)
-  ];
-}
+states-more c rows kids new old = grind (arith, cases_lt, kept_row, last_row, length_push)
 
 -- one row more, or none
 pub GrowsFrom-joined : (level : ℕ) (squares : List SquareRow) (kids : List ℕ) (t u : Table) → Grows t u → GrowsBy kids t u
@@ -95,21 +78,14 @@ AreBlanks-grows t u blanks grows are = record {
 }
 
 pub AreBlanks-first : (rows : List (List ℕ)) → AreBlanks rows (0 ∷ [])
-AreBlanks-first rows = record {
-  numbers = λ k h. let is : 0 ≡ k = omega (arith, h) in subst (λ j. IsNumber rows j (get_or (0 ∷ []) j 0)) is (IsNumber-state rows 0 (lit< tt));
-  empty = λ k h. let is : 0 ≡ k = omega (arith, h) in subst (λ j. square_in rows j (get_or (0 ∷ []) j 0) ≡ empty_square j) is (square_in-cell rows 0 ∙ sym empty_square-zero);
-}
+AreBlanks-first rows = grind (arith, IsNumber-state, square_in-cell, empty_square-zero)
 
 -- the quadrants of a blank square
 abbrev pub four_of : ℕ → List ℕ
 four_of n = n ∷ n ∷ n ∷ n ∷ []
 
 four_of-each : (P : ℕ → Type 0) (n q : ℕ) → q < 4 → P n → P (get_or (four_of n) q 0)
-four_of-each P n zero h p = p
-four_of-each P n (suc zero) h p = p
-four_of-each P n (suc (suc zero)) h p = p
-four_of-each P n (suc (suc (suc zero))) h p = p
-four_of-each P n (suc (suc (suc (suc q)))) h p = absurd (omega (arith, h))
+four_of-each q0 q1 q2 q3 q4 = grind (arith)
 
 blank_below : (rows : List (List ℕ)) (k n c : ℕ) → 0 < c → IsNumber rows k n → square_in rows k n ≡ empty_square k → n < first_number → n < c
 blank_below rows zero n c some is same h =
@@ -193,24 +169,7 @@ record IsSameSquare (squares : List SquareRow) (rows : List (List ℕ)) (k n m :
 same_square : (squares : List SquareRow) (rows : List (List ℕ)) (blanks numbers : List ℕ) (k n : ℕ) → k < length blanks → AreBlanks rows blanks → AreLoaded squares rows numbers → listed.IsNumber squares k n → (1 ≤ k → n ≤ length numbers)
     → IsSameSquare squares rows k n (number_in blanks numbers k n)
 unfolding number_in
-same_square squares rows blanks numbers zero n low are known is early = record {
-  number = IsNumber-state rows n (state-IsNumber squares n is);
-  square = square_in-cell rows n ∙ sym (square_in-state squares n);
-}
-same_square squares rows blanks numbers (suc k) zero low are known is early = record {
-  number = are.numbers (suc k) low;
-  square = are.empty (suc k) low ∙ sym (square_in-none squares (suc k));
-}
-same_square squares rows blanks numbers (suc k) (suc i) low are known is early =
-    let within : suc i ≤ length numbers = early (omega arith) in
-    let there = IsNumber-level squares k (suc i) is (omega arith) in
-    let less : suc i - 1 ≡ i = omega arith in
-    let level : (get_or squares i no_row).level ≡ suc k = ap (λ m. (get_or squares m no_row).level) (sym less) ∙ there.1 in
-    let at = known.each i (omega (arith, within)) in
-    record {
-      number = subst (λ j. IsNumber rows j (get_or numbers i 0)) level at.number;
-      square = subst (λ j. square_in rows j (get_or numbers i 0) ≡ listed.square_in squares j (suc i)) level at.square;
-    }
+same_square q0 q1 q2 q3 q4 q5 q6 q7 q8 q9 q10 = grind (arith, IsNumber-state, state-IsNumber, square_in-cell, square_in-state, square_in-none, IsNumber-level)
 
 -- the next row, which is the i-th and has the level k + 1
 pub record IsNext (squares : List SquareRow) (blanks numbers : List ℕ) (rows : List (List ℕ)) (i k : ℕ) : Type 0 where
@@ -259,11 +218,7 @@ next_kids squares blanks numbers i k =
 kids-each : (squares : List SquareRow) (blanks numbers : List ℕ) (i k c q : ℕ) → ((p : ℕ) → p < 4 → number_in blanks numbers k (next_kid squares i p) < first_number → number_in blanks numbers k (next_kid squares i p) < c) → q < 4
     → get_or (next_kids squares blanks numbers i k) q 0 < first_number → get_or (next_kids squares blanks numbers i k) q 0 < c
 unfolding next_kids
-kids-each squares blanks numbers i k c zero all h = all 0 (lit< tt)
-kids-each squares blanks numbers i k c (suc zero) all h = all 1 (lit< tt)
-kids-each squares blanks numbers i k c (suc (suc zero)) all h = all 2 (lit< tt)
-kids-each squares blanks numbers i k c (suc (suc (suc zero))) all h = all 3 (lit< tt)
-kids-each squares blanks numbers i k c (suc (suc (suc (suc q)))) all h = absurd (omega (arith, h))
+kids-each q0 q1 q2 q3 q4 q5 q6 q7 q8 = grind (arith)
 
 -- the square that they make is that of the row
 next_joined : (squares : List SquareRow) (blanks numbers kids : List ℕ) (t u : Table) (i k n : ℕ) → IsNext squares blanks numbers t.rows i k → kids ≡ next_kids squares blanks numbers i k → Grows t u → IsSquareOf u.rows kids n

@@ -1,12 +1,11 @@
 -- A quadtree in a corner of a larger square, and round its middle.
-use Rattle.std.proofs.Common.{◌≡◌, ℕ, zero, suc, ◌+◌, ◌-◌, ◌*◌, ◌^◌, ◌<◌, ◌≤◌, nat_lt, ◌||◌, Bool, true, false, cond, Option, None, pos, ◌+ℤ◌, refl, sym, ap, ap₂, ◌∙◌, subst, arith}
-use Rattle.std.specs.Option.{option_or}
+use Rattle.std.proofs.Common.{◌≡◌, ℕ, zero, suc, ◌+◌, ◌-◌, ◌*◌, ◌^◌, ◌<◌, ◌≤◌, nat_lt, ◌||◌, Bool, cond, Option, None, pos, ◌+ℤ◌, refl, sym, ap, ap₂, ◌∙◌, arith}
 use Rattle.std.proofs.lemmas.Int.{ints}
 use Rattle.std.proofs.Math.Pow.{pow_mono}
 use Rattle.square_tree.specs.Cells.{Cells, state_at, least, reach}
 use Rattle.square_tree.specs.Quadtree.{Quadtree, keep, cell, quad, HasLevel, at}
 use Rattle.square_tree.specs.Over.{over}
-use Rattle.square_tree.specs.Laid.{IsAligned, IsLaid, at_from}
+use Rattle.square_tree.specs.Laid.{IsLaid, at_from}
 use Rattle.square_tree.specs.TreeOf.{IsTreeOf}
 use Rattle.square_tree.proofs.Shared.Placed.{double, split, or_none, none_or, at_from_west, at_from_north, at_from_move_x, at_from_move_y, laid_nw, laid_ne, laid_sw, laid_all}
 use Rattle.square_tree.proofs.Shared.Quarters.{laid_quadrants, laid_where, laid_keep, reach_half, reach_mono}
@@ -18,20 +17,7 @@ use Rattle.square_table.proofs.Laying.{square_in-IsSquare, laid-says}
 -- what is laid in the south-east quadrant is laid on the square
 laid_se : {l x y k : ℕ} {other nw ne sw se se' : Quadtree} → HasLevel k other → HasLevel l (quad nw ne sw se) → 2 ^ (l - 1) ≤ x → 2 ^ (l - 1) ≤ y
     → IsLaid (l - 1) (x - 2 ^ (l - 1)) (y - 2 ^ (l - 1)) k other se se' → IsLaid l x y k other (quad nw ne sw se) (quad nw ne sw se')
-laid_se {l} {x} {y} {k} {other} {nw} {ne} {sw} {se} {se'} h q px py laid = record {
-  level = (q.0, q.1, q.2, q.3, laid.level);
-  says = λ x' y'.
-      let m = 2 ^ (l - 1) in
-      let v = l - 1 in
-      let w = at_from x y k other x' y' in
-      split y' m (λ s. cond s (cond (nat_lt x' m) (at nw v x' y') (at ne v (x' - m) y'))
-      (cond (nat_lt x' m) (at sw v x' (y' - m)) (at se' v (x' - m) (y' - m))) ≡ option_or w
-      (cond s (cond (nat_lt x' m) (at nw v x' y') (at ne v (x' - m) y')) (cond (nat_lt x' m) (at sw v x' (y' - m)) (at se v (x' - m) (y' - m)))))
-      (λ below. none_or (at_from_north other k x y x' y' (omega (arith, py, below))))
-      (λ above. split x' m (λ b. cond b (at sw v x' (y' - m)) (at se' v (x' - m) (y' - m)) ≡ option_or w (cond b (at sw v x' (y' - m)) (at se v (x' - m) (y' - m))))
-      (λ left. none_or (at_from_west other k x y x' y' (omega (arith, px, left))))
-      (λ right. laid.says (x' - m) (y' - m) ∙ ap (λ o. option_or o (at se v (x' - m) (y' - m))) (at_from_move_x other k x (y - m) x' (y' - m) m px right ∙ at_from_move_y other k x y x' y' m py above)));
-}
+laid_se {l} {x} {y} {k} {other} {nw} {ne} {sw} {se} {se'} h q px py laid = grind (arith, split, nat_lt, none_or, at_from_north, at_from_west, at_from_move_x, at_from_move_y)
 
 over-keep : (t : Quadtree) → t ≡ over t keep
 over-keep keep = refl
@@ -39,26 +25,18 @@ over-keep (cell s) = refl
 over-keep (quad a b c d) = refl
 
 nothing : (b c : Bool) → cond b (cond {A = Option ℕ} c None None) (cond c None None) ≡ None
-nothing true true = refl
-nothing true false = refl
-nothing false true = refl
-nothing false false = refl
+nothing q0 q1 = grind (arith)
 
 -- quadrants that say nothing are as good as nothing
 fresh : {l x y k : ℕ} {t new : Quadtree} → IsLaid l x y k t (quad keep keep keep keep) new → IsLaid l x y k t keep new
-fresh {l} {x} {y} {k} {t} laid = record {
-  level = laid.level;
-  says = λ x' y'. laid.says x' y' ∙ ap (option_or (at_from x y k t x' y')) (nothing (nat_lt y' (2 ^ (l - 1))) (nat_lt x' (2 ^ (l - 1))));
-}
+fresh {l} {x} {y} {k} {t} laid = grind (arith, nothing, nat_lt)
 
 keeps : (l : ℕ) → 0 < l → HasLevel l (quad keep keep keep keep)
 keeps l h = (h, tt, tt, tt, tt)
 
 -- all of an equal square
 whole : (l k : ℕ) (t : Quadtree) → l ≡ k → HasLevel k t → IsLaid l 0 0 k t keep t
-whole l k t e h =
-    let all : IsAligned l k 0 = record { smaller = omega (arith, e); before = 0; is = omega arith; inside = subst (λ j. 0 + 2 ^ k ≤ 2 ^ j) (sym e) (omega arith) } in
-    laid_all t keep t e h tt all all (over-keep t)
+whole l k t e h = grind (arith, laid_all, over-keep)
 
 -- a larger square is wider
 wider : (k l : ℕ) → k ≤ l → 2 ^ k ≤ 2 ^ l

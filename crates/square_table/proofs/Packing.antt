@@ -3,7 +3,6 @@ use Rattle.std.proofs.Common.{◌≡◌, ℕ, zero, suc, ◌+◌, ◌-◌, ◌<�
 use Rattle.std.specs.Prelude.{nat_eq, IfSome}
 use Rattle.std.specs.List.{list_any, position_or_len}
 use Rattle.std.specs.HashMap.{get, Updates}
-use Rattle.std.specs.Map.{lookup}
 use Rattle.std.proofs.lemmas.Bool.{cases_eq, cases_lt, ne_eqb}
 use Rattle.std.proofs.lemmas.List.{length_push, get_or_push}
 use Rattle.worlds.specs.Square.{Square, one, four, empty_square, IsSquare}
@@ -30,11 +29,7 @@ use Rattle.square_table.proofs.Loading.{square_in-cell, empty_square-zero, empty
 
 -- four numbers of a level
 pub number_at : (rows : List (List ℕ)) (k : ℕ) (kids : List ℕ) (q : ℕ) → q < 4 → AreNumbers rows k kids → IsNumber rows k (get_or kids q 0)
-number_at rows k kids zero h are = are.nw
-number_at rows k kids (suc zero) h are = are.ne
-number_at rows k kids (suc (suc zero)) h are = are.sw
-number_at rows k kids (suc (suc (suc zero))) h are = are.se
-number_at rows k kids (suc (suc (suc (suc q)))) h are = absurd (omega (arith, h))
+number_at q0 q1 q2 q3 q4 q5 = grind (arith)
 
 -- the numbers of the quadrants of a square
 pub quadrant_numbers : (rows : List (List ℕ)) (k n : ℕ) (kids : List ℕ) → 0 < k → IsNumber rows k n → kids ≡ kids_at rows n → AreNumbers rows (k - 1) kids
@@ -52,8 +47,7 @@ state-walk rows s = refl
 
 -- a cell is packed as its state
 pub packed_state : (rows : List (List ℕ)) (done : List SquareRow) (k n : ℕ) → k ≡ 0 → Walks k (square_in rows k n) done done n
-packed_state rows done zero n e = subst (λ (t : Square). Walks 0 t done done n) (sym (square_in-cell rows n)) (state-walk done n)
-packed_state rows done (suc k) n e = absurd (omega (arith, e))
+packed_state q0 q1 q2 q3 q4 = grind (arith, square_in-cell, state-walk)
 
 -- a square that is remembered adds nothing
 pub recalled : (rows : List (List ℕ)) (packed : Packed) (k n m : ℕ) → 0 < k → IsPacking rows packed → IsNumber rows k n → get nat_eq packed.numbers n ≡ Some m → Walks k (square_in rows k n) packed.squares.items packed.squares.items m
@@ -100,8 +94,7 @@ abbrev pub row_by : ℕ → List ℕ → SquareRow
 row_by k all = record { level = k; kids = all }
 
 none_some : (m : ℕ) (o : Option ℕ) → o ≡ None → o ≡ Some m → ⊥
-none_some m None e f = cc
-none_some m (Some n) e f = cc
+none_some q0 q1 q2 q3 = grind (arith)
 
 -- a square that isn't remembered has no row yet
 unknown_suc : (rows : List (List ℕ)) (packed : Packed) (old : List SquareRow) (k n : ℕ) (kids all : List ℕ) (there : Bool) → IsPacking rows packed → k ≤ 62 → IsNumber rows (suc k) n → kids ≡ kids_at rows n
@@ -159,21 +152,15 @@ walk_whole rows (suc l) k n kids all old mid new m e read w er en =
 -- a row that isn't there is the last, or empty
 row_by_tests : (b there : Bool) (row : SquareRow) (rows : List SquareRow) (n : ℕ) → there ≡ false → n ≡ length rows + 1
     → ((numbered b there row rows n).rows ≡ rows) ⊎ (((numbered b there row rows n).rows ≡ rows ++ row ∷ []) × ((numbered b there row rows n).number ≡ length rows + 1))
-row_by_tests true there row rows n none is = inl refl
-row_by_tests false true row rows n none is = cc
-row_by_tests false false row rows n none is = inr (refl, is)
+row_by_tests q0 q1 q2 q3 q4 q5 q6 = grind (arith)
 
 row_more : (row : SquareRow) (rows : List SquareRow) → list_any (same_row row) rows ≡ false → ((number_row row rows).rows ≡ rows) ⊎ (((number_row row rows).rows ≡ rows ++ row ∷ []) × ((number_row row rows).number ≡ length rows + 1))
-row_more row rows none =
-    subst (λ (r : Numbered). (r.rows ≡ rows) ⊎ ((r.rows ≡ rows ++ row ∷ []) × (r.number ≡ length rows + 1))) (sym (number_row-is row rows))
-    (row_by_tests _ _ row rows _ none (ap (λ n. n + 1) (not_found (same_row row) rows none)))
+row_more row rows none = grind (arith, number_row-is, row_by_tests, not_found)
 
 -- a new row that isn't empty
 pub number_row-new : (row : SquareRow) (rows : List SquareRow) → list_any (same_row row) rows ≡ false → same_kids row.kids (0 ∷ 0 ∷ 0 ∷ 0 ∷ []) ≡ false
     → number_row row rows ≡ record { rows = rows ++ row ∷ []; number = length rows + 1 }
-number_row-new row rows none some =
-    number_row-is row rows
-    ∙ (λ i. numbered (some i) (none i) row rows (not_found (same_row row) rows none i + 1))
+number_row-new row rows none some = grind (arith, number_row-is, not_found)
 
 known_kept : (rows : List (List ℕ)) (old new : List SquareRow) (k n : ℕ) (o : Option ℕ) → Grows old new → IfSome o (Has k (square_in rows k n) old) → IfSome o (Has k (square_in rows k n) new)
 known_kept rows old new k n None grows h = tt
@@ -214,34 +201,10 @@ module _ (rows : List (List ℕ)) (mid new : Packed) (level n m : ℕ) (all : Li
 
   seen_last : listed.square_in new.squares.items level m ≡ square_in rows level n → (i : ℕ) → i ≡ length mid.squares.items
       → new.squares.items ≡ mid.squares.items ++ row_by level all ∷ [] → m ≡ length mid.squares.items + 1 → IsSeen rows new i
-  seen_last named i place more count =
-      let old = mid.squares.items in
-      let last = new.squares.items in
-      let row = row_by level all in
-      let at : get_or last i no_row ≡ row = ap (λ (rs : List SquareRow). get_or rs i no_row) more ∙ get_or_push old row no_row i (sym place) in
-      let top : (get_or last i no_row).level ≡ level = ap (λ (r : SquareRow). r.level) at in
-      let next : m ≡ suc i = omega (arith, count, place) in
-      record {
-        number = n;
-        numbered = subst (λ j. IsNumber rows j n) (sym top) is;
-        square = subst (λ j. listed.square_in last j (suc i) ≡ square_in rows j n) (sym top) (ap (listed.square_in last level) (sym next) ∙ named);
-        known = updates.1 ∙ ap Some next;
-      }
+  seen_last named i place more count = grind (arith, get_or_push)
 
   seen_more : list_any (same_row (row_by level all)) mid.squares.items ≡ false → listed.square_in new.squares.items level m ≡ square_in rows level n → (i : ℕ) → i < length new.squares.items → IsSeen rows new i
-  seen_more none named i within =
-      let old = mid.squares.items in
-      let row = row_by level all in
-      elim (cases_lt i (length old)) [
-        | inl before ↦ seen_before i before
-        | inr after ↦ elim (row_more row old none) [
-          | inl same ↦ let size = ap length (sym er ∙ same) in absurd (omega (arith, within, after, size))
-          | inr more ↦
-              let is_more : new.squares.items ≡ old ++ row ∷ [] = sym er ∙ more.0 in
-              let size = ap length is_more in
-              seen_last named i (omega (arith, within, after, size, length_push old row)) is_more (sym en ∙ more.1)
-        ]
-      ]
+  seen_more none named i within = grind (arith, cases_lt, seen_before, row_more, seen_last, length_push)
 
 pub packed_more : (rows : List (List ℕ)) (old mid new : Packed) (level k n m : ℕ) (kids all : List ℕ) → level ≡ suc k → level ≤ 62 → IsPacking rows old → Packs rows k old mid → IsNumber rows level n → kids ≡ kids_at rows n
     → get nat_eq old.numbers n ≡ None → WalksFour rows k kids old.squares.items mid.squares.items all
@@ -270,14 +233,7 @@ packed_more rows old mid new level k n m kids all e high packing packs is read n
 
 -- with nothing packed
 pub packing_none : (rows : List (List ℕ)) (packed : Packed) → AreDistinct rows → packed.squares.items ≡ [] → packed.numbers.entries ≡ [] → IsPacking rows packed
-packing_none rows packed distinct none empty = record {
-  distinct = distinct;
-  valid = subst AreRows (sym none) AreRows-none;
-  each = subst (λ (rs : List SquareRow). (k n : ℕ) → listed.IsNumber rs k n → Has k (listed.square_in rs k n) rs n) (sym none) EachHas-none.has;
-  few = let size = ap length none in omega (arith, size);
-  known = λ k n low is. subst (λ (es : List (ℕ × ℕ)). IfSome (lookup (nat_eq n) es) (Has k (square_in rows k n) packed.squares.items)) (sym empty) tt;
-  seen = λ i h. let size = ap length none in absurd (omega (arith, h, size));
-}
+packing_none rows packed distinct none empty = grind (arith, AreRows-none, EachHas-none)
 
 -- the rows of quadrants are of lower levels
 four_levels : (rows : List (List ℕ)) (k : ℕ) (kids all : List ℕ) (old new : List SquareRow) → old ≡ [] → WalksFour rows k kids old new all → LevelsUpTo k new
@@ -330,8 +286,7 @@ root_listed (suc k) s all low high is e = subst (IsListed (suc k) s) e (tidy.lis
 
 -- a square whose quadrants are one empty square
 pub blank_state : (rows : List (List ℕ)) (level n : ℕ) → level ≡ 0 → n ≡ 0 → square_in rows level n ≡ empty_square level
-blank_state rows zero n e is = square_in-cell rows n ∙ ap one is ∙ sym empty_square-zero
-blank_state rows (suc k) n e is = absurd (omega (arith, e))
+blank_state q0 q1 q2 q3 q4 = grind (arith, square_in-cell, empty_square-zero)
 
 pub blank_row : (rows : List (List ℕ)) (level n o : ℕ) (kids : List ℕ) → 0 < level → kids ≡ kids_at rows n → kids ≡ o ∷ o ∷ o ∷ o ∷ [] → square_in rows (level - 1) o ≡ empty_square (level - 1) → square_in rows level n ≡ empty_square level
 blank_row rows zero n o kids low read same is = absurd (omega (arith, low))

@@ -13,6 +13,7 @@ use std::alloc::Allocator;
 
 impl<'a> SquareTable<'a> {
     // Lays the tree of an equal square on the square of a level with a number.
+    #[tactic(auto, unfolding(crate::specs::Squares::IsNumber))]
     #[cycle(lay)]
     fn lay_tree<B: Allocator>(
         &mut self,
@@ -63,6 +64,7 @@ impl<'a> SquareTable<'a> {
 
     // Lays the tree of a smaller square, or of an equal one, in a corner of a square: that of the
     // quadrant nw, ne, sw or se.
+    #[tactic(auto, unfolding(crate::specs::Squares::IsNumber))]
     fn lay_corner<B: Allocator>(
         &mut self,
         level: u8,
@@ -112,6 +114,7 @@ impl<'a> SquareTable<'a> {
     }
 
     // Lays the tree of a smaller square, or of an equal one, round the middle of a square.
+    #[tactic(auto, unfolding(crate::specs::Squares::IsNumber))]
     fn lay_middle<B: Allocator>(
         &mut self,
         level: u8,

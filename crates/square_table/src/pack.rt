@@ -55,6 +55,7 @@ fn complete(squares: &mut Vec<SquareRow>, row: SquareRow) -> Result<u32, AllocEr
 
 impl<'a> SquareTable<'a> {
     // The square of half the side in the middle of one.
+    #[tactic(auto, unfolding(crate::specs::Squares::IsNumber))]
     fn middle(&self, whole: Quarters) -> Quarters
         requires level { 2 ≤ whole.level }
         requires numbers { AreNumbers self.now.rows (whole.level - 1) whole.kids }
@@ -76,6 +77,7 @@ impl<'a> SquareTable<'a> {
 
     // Whether a square is empty. Its quadrants are one square then, and so are theirs: it takes a
     // step for each level.
+    #[tactic(auto, unfolding(crate::specs::Squares::IsNumber))]
     fn is_blank(&self, level: u8, number: u32) -> bool
         requires { IsNumber self.now.rows level number }
         ensures { result ≡ true → square_in self.now.rows level number ≡ empty_square level }
@@ -91,6 +93,7 @@ impl<'a> SquareTable<'a> {
     }
 
     // Whether a square is empty round the one in its middle.
+    #[tactic(auto, unfolding(crate::specs::Squares::IsNumber))]
     fn is_padded(&self, whole: Quarters) -> bool
         requires level { 2 ≤ whole.level }
         requires numbers { AreNumbers self.now.rows (whole.level - 1) whole.kids }
@@ -170,6 +173,7 @@ impl<'a> SquareTable<'a> {
 
     // Packs a square, and gives its number among the rows. One that was seen is not packed again; of
     // one that wasn't the row is a new one, since the table's squares are distinct.
+    #[tactic(auto, unfolding(crate::specs::Squares::IsNumber))]
     #[cycle(pack)]
     fn pack_square(&self, packed: &mut Packed, level: u8, number: u32) -> Result<u32, AllocError>
         requires level { level ≤ 61 }

@@ -122,6 +122,7 @@ impl<'a> SquareTable<'a> {
     }
 
     /// The square of a level with a number. It is refused for memory alone.
+    #[tactic(auto, unfolding(crate::specs::Squares::IsNumber))]
     pub fn square(&self, level: u8, number: u32) -> Result<Square<'a>, AllocError>
         requires { IsNumber self.now.rows level number }
         ensures held { IfOk result (IsHeld self.now) }

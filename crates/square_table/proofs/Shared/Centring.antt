@@ -1,53 +1,20 @@
 -- Squares whose middle lies at the origin, and the worlds whose cells they have.
-use Rattle.std.proofs.Common.{◌≡◌, ℕ, zero, suc, ◌+◌, ◌-◌, ◌<◌, ◌≤◌, ◌^◌, List, [], ◌∷◌, length, get_or, refl, sym, ap, ap₂, ◌∙◌, subst, arith, inl, inr, pow_mono, ℤ, pos, neg_ℤ, ◌+ℤ◌}
-use Rattle.std.proofs.lemmas.Bool.{cases_lt}
+use Rattle.std.proofs.Common.{◌≡◌, ℕ, zero, suc, ◌+◌, ◌-◌, ◌<◌, ◌≤◌, ◌^◌, List, [], ◌∷◌, get_or, sym, ap, ap₂, ◌∙◌, ◌⊎◌, subst, arith, inl, inr, pow_mono, ℤ, pos, neg_ℤ, ◌+ℤ◌}
 use Rattle.std.proofs.lemmas.Int.{ints}
 use Rattle.worlds.specs.World.{World, blank, cell, cell-blank, same_world}
 use Rattle.worlds.specs.Range.{HasMargin}
-use Rattle.worlds.specs.Square.{Square, one, four, IsSquare, IsIn, cell_in, put_square, square_at}
+use Rattle.worlds.specs.Square.{Square, four, IsSquare, IsIn, cell_in, put_square, square_at}
 use Rattle.plane_core.specs.declared.row.SquareRow.{SquareRow}
 use Rattle.plane_core.specs.Rows.{AreRows, root_level, root_of, world_of_rows}
-use Rattle.plane_core.proofs.Shared.Cells.{cell_in-ne, cell_in-nw, cell_in-one, cell_in-se, cell_in-sw, double, in_or_out, offsets, put_square-inside, put_square-outside, at_origin, square_at-zero, square_at-suc, square_at-cells, nw_of, ne_of, sw_of, se_of}
+use Rattle.plane_core.proofs.Shared.Cells.{double, in_or_out, offsets, put_square-below, put_square-inside, put_square-outside, same_square, square_at-IsSquare, square_at-suc, square_at-cells, nw_of, ne_of, sw_of, se_of}
 use Rattle.plane_core.proofs.Shared.Centring.{around_centre}
-use Rattle.plane_core.proofs.Shared.Roots.{root-IsSquare, root-Fits, root-cells}
+use Rattle.plane_core.proofs.Shared.Roots.{root-IsSquare, world-root}
 use Rattle.plane_core.specs.Centre.{centred}
 use Rattle.square_table.specs.Centred.{edge, IsCentred, CentredAlike}
 use Rattle.square_table.specs.Squares.{square_in, square_of, kids_at}
+use Rattle.square_table.specs.declared.pack.Quarters.{Quarters}
+use Rattle.square_table.specs.Packing.{IsPadded, square_by}
 use Rattle.square_table.proofs.Shared.Growth.{square_in-quadrants}
-
--- the cells of the square are those of the world from (x, y) on
-pub HasCells : World → ℕ → Square → ℤ → ℤ → Type 0
-HasCells w k s x y = (i j : ℕ) → i < 2 ^ k → j < 2 ^ k → cell_in k s i j ≡ cell w (x +ℤ pos i) (y +ℤ pos j)
-
--- such a square is that of the world
-pub is_square_at : (w : World) (k : ℕ) (s : Square) (x y : ℤ) → IsSquare k s → HasCells w k s x y → s ≡ square_at w k x y
-unfolding IsSquare HasCells
-is_square_at w zero (one n) x y is has =
-    let e : n ≡ cell w x y = sym (cell_in-one 0 n 0 0) ∙ has 0 0 (omega arith) (omega arith) ∙ ap₂ (cell w) (sym (at_origin x 0 (omega arith))) (sym (at_origin y 0 (omega arith))) in
-    ap one e ∙ sym (square_at-zero w x y)
-is_square_at w zero (four a b c d) x y is has = absurd is
-is_square_at w (suc k) (one n) x y is has = absurd is
-is_square_at w (suc k) (four a b c d) x y is has =
-    let h = 2 ^ k in
-    let twice = double k in
-    let on = λ (z : ℤ) (i : ℕ). let e : z +ℤ pos (h + i) ≡ (z +ℤ pos h) +ℤ pos i = omega (arith, ints) in e in
-    let back = λ (i : ℕ). let e : (h + i) - h ≡ i = omega arith in e in
-    let nw = is_square_at w k a x y is.0 (λ i j hi hj. sym (cell_in-nw k a b c d i j hi hj) ∙ has i j (omega arith) (omega arith)) in
-    let ne = is_square_at w k b (x +ℤ pos h) y is.1 (λ i j hi hj.
-    ap (λ m. cell_in k b m j) (sym (back i)) ∙ sym (cell_in-ne k a b c d (h + i) j (omega arith) hj) ∙ has (h + i) j (omega arith) (omega arith) ∙ ap (λ z. cell w z (y +ℤ pos j)) (on x i)) in
-    let sw = is_square_at w k c x (y +ℤ pos h) is.2 (λ i j hi hj.
-    ap (λ m. cell_in k c i m) (sym (back j)) ∙ sym (cell_in-sw k a b c d i (h + j) hi (omega arith)) ∙ has i (h + j) (omega arith) (omega arith) ∙ ap (cell w (x +ℤ pos i)) (on y j)) in
-    let se = is_square_at w k d (x +ℤ pos h) (y +ℤ pos h) is.3 (λ i j hi hj.
-    ap₂ (cell_in k d) (sym (back i)) (sym (back j)) ∙ sym (cell_in-se k a b c d (h + i) (h + j) (omega arith) (omega arith)) ∙ has (h + i) (h + j) (omega arith) (omega arith) ∙ ap₂ (cell w) (on x i) (on y j)) in
-    (λ i. four (nw i) (ne i) (sw i) (se i)) ∙ sym (square_at-suc w k x y)
-
--- the root of a plane's rows is centred
-pub root_centred : (rows : List SquareRow) → AreRows rows → IsCentred (world_of_rows rows) (root_level rows) (root_of rows)
-unfolding HasCells
-root_centred rows valid = record {
-  square = is_square_at (world_of_rows rows) (root_level rows) (root_of rows) (edge (root_level rows)) (edge (root_level rows)) (root-IsSquare rows valid) (λ i j hi hj. root-cells rows (root_level rows) i j valid refl hi hj);
-  inside = root-Fits rows valid;
-}
 
 dead : (w : World) (k : ℕ) (s : Square) (x y : ℤ) → IsCentred w k s → (IsIn (2 ^ k) (edge k) (edge k) x y → ⊥) → cell w x y ≡ 0
 dead w k s x y is out = let no : 0 < cell w x y → ⊥ = λ live. out (is.inside x y live) in omega (arith, no)
@@ -82,27 +49,12 @@ half_edge k =
     ap (λ n. neg_ℤ (pos (2 ^ n)) +ℤ pos (2 ^ k)) a ∙ e ∙ ap (λ n. neg_ℤ (pos (2 ^ n))) (sym b)
 
 middle_edge : (k : ℕ) → edge (suc (suc k)) +ℤ pos (2 ^ suc k) ≡ edge (suc k) +ℤ pos (2 ^ k)
-middle_edge k =
-    let a : suc (suc k) - 1 ≡ suc k = omega arith in
-    let b : suc k - 1 ≡ k = omega arith in
-    let e : neg_ℤ (pos (2 ^ suc k)) +ℤ pos (2 ^ suc k) ≡ neg_ℤ (pos (2 ^ k)) +ℤ pos (2 ^ k) = omega (arith, ints) in
-    ap (λ n. neg_ℤ (pos (2 ^ n)) +ℤ pos (2 ^ suc k)) a ∙ e ∙ ap (λ n. neg_ℤ (pos (2 ^ n)) +ℤ pos (2 ^ k)) (sym b)
+middle_edge k = grind (arith)
 
 -- the middle of the square of a world
 middle_at : (w : World) (k : ℕ) → middle_of (square_at w (suc (suc k)) (edge (suc (suc k))) (edge (suc (suc k)))) ≡ square_at w (suc k) (edge (suc k)) (edge (suc k))
 unfolding middle_of nw_of ne_of sw_of se_of
-middle_at w k =
-    let e = edge (suc (suc k)) in
-    let f = edge (suc k) in
-    let h = pos (2 ^ k) in
-    let g = pos (2 ^ suc k) in
-    let x = half_edge k in
-    let y = middle_edge k in
-    let parts = λ (a b : ℤ). square_at-suc w k a b in
-    ap middle_of (square_at-suc w (suc k) e e)
-    ∙ (λ i. four (se_of (parts e e i)) (sw_of (parts (e +ℤ g) e i)) (ne_of (parts e (e +ℤ g) i)) (nw_of (parts (e +ℤ g) (e +ℤ g) i)))
-    ∙ (λ i. four (square_at w k (x i) (x i)) (square_at w k (y i) (x i)) (square_at w k (x i) (y i)) (square_at w k (y i) (y i)))
-    ∙ sym (square_at-suc w k f f)
+middle_at w k = grind (arith, half_edge, middle_edge, square_at-suc, se_of, sw_of, ne_of, nw_of)
 
 -- where the range of planes lies in the middle of a square, the middle is centred too
 pub middle_centred : (w : World) (k : ℕ) (s : Square) → 61 ≤ k → HasMargin 0 w → IsCentred w (suc (suc k)) s → IsCentred w (suc k) (middle_of s)
@@ -142,40 +94,23 @@ middle_padded w k s a b c d padded is = record {
 middle_in : (rows : List (List ℕ)) (k : ℕ) (kids a b c d : List ℕ) → a ≡ kids_at rows (get_or kids 0 0) → b ≡ kids_at rows (get_or kids 1 0) → c ≡ kids_at rows (get_or kids 2 0) → d ≡ kids_at rows (get_or kids 3 0)
     → middle_of (square_of rows (suc k) kids) ≡ square_of rows k (get_or a 3 0 ∷ get_or b 2 0 ∷ get_or c 1 0 ∷ get_or d 0 0 ∷ [])
 unfolding middle_of nw_of ne_of sw_of se_of
-middle_in rows k kids a b c d ea eb ec ed =
-    let nw = square_in-quadrants rows k (get_or kids 0 0) ∙ ap (square_of rows k) (sym ea) in
-    let ne = square_in-quadrants rows k (get_or kids 1 0) ∙ ap (square_of rows k) (sym eb) in
-    let sw = square_in-quadrants rows k (get_or kids 2 0) ∙ ap (square_of rows k) (sym ec) in
-    let se = square_in-quadrants rows k (get_or kids 3 0) ∙ ap (square_of rows k) (sym ed) in
-    λ i. four (se_of (nw i)) (sw_of (ne i)) (ne_of (sw i)) (nw_of (se i))
+middle_in rows k kids a b c d ea eb ec ed = grind (arith, square_in-quadrants, se_of, sw_of, ne_of, nw_of)
 
-pub middle_alike : (rows : List (List ℕ)) (level : ℕ) (kids a b c d : List ℕ) → 62 < level → a ≡ kids_at rows (get_or kids 0 0) → b ≡ kids_at rows (get_or kids 1 0) → c ≡ kids_at rows (get_or kids 2 0) → d ≡ kids_at rows (get_or kids 3 0)
-    → CentredAlike level (square_of rows (level - 1) kids) (level - 1) (square_of rows (level - 1 - 1) (get_or a 3 0 ∷ get_or b 2 0 ∷ get_or c 1 0 ∷ get_or d 0 0 ∷ []))
-middle_alike rows zero kids a b c d high ea eb ec ed = absurd (omega (arith, high))
-middle_alike rows (suc zero) kids a b c d high ea eb ec ed = absurd (omega (arith, high))
-middle_alike rows (suc (suc k)) kids a b c d high ea eb ec ed = λ w margin is.
-    let less : suc (suc k) - 1 ≡ suc k = omega arith in
-    let two_less : suc (suc k) - 1 - 1 ≡ k = omega arith in
-    let far : 61 ≤ k = omega (arith, high) in
-    let new = get_or a 3 0 ∷ get_or b 2 0 ∷ get_or c 1 0 ∷ get_or d 0 0 ∷ [] in
-    let whole : IsCentred w (suc (suc k)) (square_of rows (suc k) kids) = subst (λ j. IsCentred w (suc (suc k)) (square_of rows j kids)) less is in
-    let part : IsCentred w (suc k) (square_of rows k new) = subst (IsCentred w (suc k)) (middle_in rows k kids a b c d ea eb ec ed) (middle_centred w k _ far margin whole) in
-    subst (λ j. IsCentred w j (square_of rows (suc (suc k) - 1 - 1) new)) (sym less) (subst (λ j. IsCentred w (suc k) (square_of rows j new)) (sym two_less) part)
-
-pub padded_alike : (rows : List (List ℕ)) (level : ℕ) (kids a b c d : List ℕ) (nw ne sw se : Square) → 2 ≤ level → square_of rows (level - 1) kids ≡ centred (level - 1 - 1) nw ne sw se
-    → a ≡ kids_at rows (get_or kids 0 0) → b ≡ kids_at rows (get_or kids 1 0) → c ≡ kids_at rows (get_or kids 2 0) → d ≡ kids_at rows (get_or kids 3 0)
-    → CentredAlike level (square_of rows (level - 1) kids) (level - 1) (square_of rows (level - 1 - 1) (get_or a 3 0 ∷ get_or b 2 0 ∷ get_or c 1 0 ∷ get_or d 0 0 ∷ []))
-padded_alike rows zero kids a b c d nw ne sw se high padded ea eb ec ed = absurd (omega (arith, high))
-padded_alike rows (suc zero) kids a b c d nw ne sw se high padded ea eb ec ed = absurd (omega (arith, high))
-padded_alike rows (suc (suc k)) kids a b c d nw ne sw se high padded ea eb ec ed = λ w margin is.
-    let less : suc (suc k) - 1 ≡ suc k = omega arith in
-    let two_less : suc (suc k) - 1 - 1 ≡ k = omega arith in
-    let new = get_or a 3 0 ∷ get_or b 2 0 ∷ get_or c 1 0 ∷ get_or d 0 0 ∷ [] in
-    let round : square_of rows (suc k) kids ≡ centred k nw ne sw se =
-    subst (λ j. square_of rows (suc k) kids ≡ centred j nw ne sw se) two_less (subst (λ j. square_of rows j kids ≡ centred (suc (suc k) - 1 - 1) nw ne sw se) less padded) in
-    let whole : IsCentred w (suc (suc k)) (square_of rows (suc k) kids) = subst (λ j. IsCentred w (suc (suc k)) (square_of rows j kids)) less is in
-    let part : IsCentred w (suc k) (square_of rows k new) = subst (IsCentred w (suc k)) (middle_in rows k kids a b c d ea eb ec ed) (middle_padded w k _ nw ne sw se round whole) in
-    subst (λ j. IsCentred w j (square_of rows (suc (suc k) - 1 - 1) new)) (sym less) (subst (λ j. IsCentred w (suc k) (square_of rows j new)) (sym two_less) part)
+-- the square in the middle of one lies round the origin of the same worlds, where the range of planes lies in it or the rest is empty
+pub middle_alike : (rows : List (List ℕ)) (whole : Quarters) (a b c d : List ℕ) → 2 ≤ whole.level → (62 < whole.level) ⊎ IsPadded rows whole
+    → a ≡ kids_at rows (get_or whole.kids 0 0) → b ≡ kids_at rows (get_or whole.kids 1 0) → c ≡ kids_at rows (get_or whole.kids 2 0) → d ≡ kids_at rows (get_or whole.kids 3 0)
+    → CentredAlike whole.level (square_by rows whole) (whole.level - 1) (square_of rows (whole.level - 1 - 1) (get_or a 3 0 ∷ get_or b 2 0 ∷ get_or c 1 0 ∷ get_or d 0 0 ∷ []))
+middle_alike rows whole a b c d low either ea eb ec ed w margin is =
+    let k = whole.level - 1 - 1 in
+    let one_less : whole.level - 1 ≡ suc k = omega arith in
+    let two_less : whole.level ≡ suc (suc k) = omega arith in
+    let s = square_of rows (suc k) whole.kids in
+    let own : IsCentred w (suc (suc k)) s = subst (λ j. IsCentred w (suc (suc k)) (square_of rows j whole.kids)) one_less (subst (λ j. IsCentred w j (square_by rows whole)) two_less is) in
+    let part : IsCentred w (suc k) (middle_of s) = elim either [
+      | inl high ↦ middle_centred w k s (omega (arith, high)) margin own
+      | inr pad ↦ middle_padded w k s pad.nw pad.ne pad.sw pad.se (subst (λ j. square_of rows j whole.kids ≡ centred k pad.nw pad.ne pad.sw pad.se) one_less pad.is) own
+    ] in
+    subst (λ j. IsCentred w j (square_of rows k (get_or a 3 0 ∷ get_or b 2 0 ∷ get_or c 1 0 ∷ get_or d 0 0 ∷ []))) (sym one_less) (subst (IsCentred w (suc k)) (middle_in rows k whole.kids a b c d ea eb ec ed) part)
 
 -- a square by the numbers of its quadrants
 pub quarters_alike : (rows : List (List ℕ)) (k n : ℕ) (kids : List ℕ) → 0 < k → kids ≡ kids_at rows n → CentredAlike k (square_in rows k n) k (square_of rows (k - 1) kids)
@@ -186,14 +121,17 @@ quarters_alike rows (suc k) n kids low e = λ w margin is.
 
 -- the world that a square makes round the origin
 pub put_centred : (k : ℕ) (s : Square) → IsSquare k s → IsCentred (put_square k s (edge k) (edge k) blank) k s
-unfolding HasCells
-put_centred k s is = record {
-  square = is_square_at _ k s (edge k) (edge k) is (λ i j hi hj. sym (put_square-inside k s (edge k) (edge k) blank (edge k +ℤ pos i) (edge k +ℤ pos j) i j is refl refl hi hj));
-  inside = λ x y live. elim (in_or_out (2 ^ k) (edge k) (edge k) x y) [
-    | inl h ↦ h
-    | inr out ↦ let none = put_square-outside k s (edge k) (edge k) blank x y is out ∙ cell-blank x y in absurd (omega (arith, live, none))
-  ];
-}
+put_centred k s is =
+    let e = edge k in
+    let w = put_square k s e e blank in
+    record {
+      square = same_square k s (square_at w k e e) is (square_at-IsSquare w k e e (put_square-below k s e e is)) (λ i j hi hj. grind (arith, put_square-inside k s e e blank, square_at-cells w k e e i j));
+      inside = λ x y live. grind (arith, in_or_out, put_square-outside k s e e blank x y is, cell-blank);
+    }
+
+-- the root of a plane's rows is centred
+pub root_centred : (rows : List SquareRow) → AreRows rows → IsCentred (world_of_rows rows) (root_level rows) (root_of rows)
+root_centred rows valid = rw (world-root) (put_centred (root_level rows) (root_of rows) (root-IsSquare rows valid))
 
 -- is the one on which it is centred
 pub put_world : (w : World) (k : ℕ) (s : Square) → IsSquare k s → IsCentred w k s → put_square k s (edge k) (edge k) blank ≡ w

@@ -1,8 +1,8 @@
 -- Tables that have more rows than before: what a number stood for it stands for still.
-use Rattle.std.proofs.Common.{◌≡◌, ℕ, suc, ◌+◌, ◌-◌, ◌<◌, ◌≤◌, List, [], ◌∷◌, ◌++◌, length, get_or, refl, sym, ◌∙◌, ap, subst, arith}
-use Rattle.std.proofs.lemmas.List.{append-nil, append_assoc}
-use Rattle.square_table.specs.Squares.{Table, IsNumber, AreNumbers, square_in, square_of, kids_at, kid_at, first_number, IsSquareOf, Grows, Keeps, with_row, level_of, number_of}
-use Rattle.square_table.proofs.Shared.Tables.{IsNumber-more, square_in-more, kept_row, one_longer, above_zero}
+use Rattle.std.proofs.Common.{◌≡◌, ℕ, suc, ◌+◌, ◌-◌, ◌<◌, ◌≤◌, List, [], ◌∷◌, ◌++◌, length, refl, sym, ◌∙◌, ap, subst, arith}
+use Rattle.std.proofs.lemmas.List.{append-nil, append_assoc, length_push}
+use Rattle.square_table.specs.Squares.{Table, IsNumber, AreNumbers, square_in, square_of, kids_at, first_number, IsSquareOf, Grows, Keeps, with_row, level_of, number_of}
+use Rattle.square_table.proofs.Shared.Tables.{IsNumber-more, square_in-more, kept_row, above_zero}
 
 pub Grows-same : (t : Table) → Grows t t
 Grows-same t = record { limit = refl; more = []; rows = sym (append-nil t.rows) }
@@ -11,11 +11,7 @@ pub Grows-more : (t : Table) (row : List ℕ) → Grows t (with_row t row)
 Grows-more t row = record { limit = refl; more = row ∷ []; rows = refl }
 
 pub Grows-then : (t u v : Table) → Grows t u → Grows u v → Grows t v
-Grows-then t u v first second = record {
-  limit = second.limit ∙ first.limit;
-  more = first.more ++ second.more;
-  rows = second.rows ∙ ap (λ rows. rows ++ second.more) first.rows ∙ append_assoc t.rows first.more second.more;
-}
+Grows-then t u v first second = grind (arith, append_assoc)
 
 -- what stays with one more row stays with any more
 stays : (P : List (List ℕ) → Type 0) → ((rows : List (List ℕ)) (row : List ℕ) → P rows → P (rows ++ row ∷ [])) → (more rows : List (List ℕ)) → P rows → P (rows ++ more)
@@ -36,7 +32,7 @@ square_in-grows t u k n grows h =
 pub kids_at-grows : (t u : Table) (n : ℕ) → Grows t u → first_number ≤ n → n < first_number + length t.rows → kids_at u.rows n ≡ kids_at t.rows n
 kids_at-grows t u n grows above there =
     (grown (λ rows. (n < first_number + length rows) × (kids_at rows n ≡ kids_at t.rows n))
-    (λ rows row g. let size = one_longer rows row in (
+    (λ rows row g. let size = length_push rows row in (
       omega (arith, g.0, size),
       kept_row rows row (n - first_number) (omega (arith, above, g.0))
           ∙ g.1,
@@ -51,12 +47,7 @@ AreNumbers-grows t u k kids grows are = record {
 }
 
 pub square_of-grows : (t u : Table) (k : ℕ) (kids : List ℕ) → Grows t u → AreNumbers t.rows k kids → square_of u.rows k kids ≡ square_of t.rows k kids
-square_of-grows t u k kids grows are =
-    let nw = square_in-grows t u k _ grows are.nw in
-    let ne = square_in-grows t u k _ grows are.ne in
-    let sw = square_in-grows t u k _ grows are.sw in
-    let se = square_in-grows t u k _ grows are.se in
-    cc
+square_of-grows t u k kids grows are = grind (arith, square_in-grows)
 
 pub Keeps-grows : (t u : Table) → Grows t u → Keeps t u
 Keeps-grows t u grows = record {
@@ -71,9 +62,7 @@ Keeps-grows t u grows = record {
 -- the square whose quadrants are numbers of one level is a number of the next
 pub IsNumber-joined : (rows : List (List ℕ)) (k : ℕ) (kids : List ℕ) (n : ℕ) → IsSquareOf rows kids n → AreNumbers rows k kids → IsNumber rows (suc k) n
 unfolding IsNumber
-IsNumber-joined rows k kids n is are =
-    let kid : (q : ℕ) → IsNumber rows k (get_or kids q 0) → IsNumber rows k (kid_at rows n q) = λ q h. subst (λ ks. IsNumber rows k (get_or ks q 0)) (sym is.listed) h in
-    (is.above, is.there, kid 0 are.nw, kid 1 are.ne, kid 2 are.sw, kid 3 are.se)
+IsNumber-joined rows k kids n is are = grind (arith)
 
 pub square_in-joined : (rows : List (List ℕ)) (k : ℕ) (kids : List ℕ) (n : ℕ) → IsSquareOf rows kids n → square_in rows (suc k) n ≡ square_of rows k kids
 unfolding square_in

@@ -1,13 +1,15 @@
 -- Rows that are of given squares, where a table grows, and the different squares that they are.
-use Rattle.std.proofs.Common.{◌≡◌, ℕ, zero, suc, ◌+◌, ◌-◌, List, [], ◌∷◌, ◌++◌, length, get_or, refl, sym, ap, ◌∙◌, subst, arith, inl, inr}
+use Rattle.std.proofs.Common.{◌≡◌, ℕ, zero, suc, ◌+◌, List, [], ◌∷◌, ◌<◌, length, map, get_or, slice_index_or, refl, sym, ap, ◌∙◌, subst, arith, inl, inr}
 use Rattle.std.specs.Prelude.{Contains}
 use Rattle.std.proofs.lemmas.Bool.{cases_lt}
+use Rattle.std.proofs.lemmas.List.{get_or-map, length_push}
 use Rattle.std.proofs.lemmas.List.Elements.{All-head}
 use Rattle.worlds.specs.Square.{Square}
-use Rattle.square_table.specs.Squares.{Table, IsNumber, square_in, kid_at, first_number, IsSquareOf, Grows, GrowsBy, with_row}
+use Rattle.square_table.specs.Squares.{Table, IsNumber, AreNumbers, AreFour, square_in, square_of, kid_at, first_number, IsSquareOf, Grows, GrowsBy, with_row, joined, number_of}
+use Rattle.square_table.specs.declared.square.Square as handle
 use Rattle.square_table.specs.Made.{IsMade, IsAmong, AreAmong, Adds, HoldsWithin}
-use Rattle.square_table.proofs.Shared.Tables.{last_row, one_longer}
-use Rattle.square_table.proofs.Shared.Growth.{IsNumber-grows, square_in-grows}
+use Rattle.square_table.proofs.Shared.Tables.{last_row}
+use Rattle.square_table.proofs.Shared.Growth.{AreNumbers-grows, IsNumber-grows, IsNumber-joined, square_in-grows, square_in-joined, square_of-grows}
 
 IsAmong-grows : (all : List Square) (t u : Table) (n : ℕ) → Grows t u → IsAmong all t.rows n → IsAmong all u.rows n
 IsAmong-grows all t u n grows is = record {
@@ -39,11 +41,7 @@ within-made P rows so (suc k) n is = (
 
 -- the row that is added
 added : (t : Table) (kids : List ℕ) (i : ℕ) → i ≡ length t.rows → IsSquareOf (with_row t kids).rows kids (first_number + i)
-added t kids i last = record {
-  above = omega arith;
-  there = omega (arith, last, one_longer t.rows kids);
-  listed = let place : (first_number + i) - first_number ≡ i = omega arith in ap (λ m. get_or (t.rows ++ kids ∷ []) m []) place ∙ last_row t.rows kids i last;
-}
+added t kids i last = grind (arith, length_push, last_row)
 
 -- one row more, or none
 pub AreAmong-joined : (all : List Square) (t u : Table) (kids : List ℕ) → Grows t u → GrowsBy kids t u → ((n : ℕ) → IsSquareOf u.rows kids n → IsAmong all u.rows n) → AreAmong all t.rows → AreAmong all u.rows
@@ -53,7 +51,7 @@ AreAmong-joined all t u kids grows step made are = elim step [
     each = λ i below. elim (cases_lt i (length t.rows)) [
       | inl before ↦ IsAmong-grows all t u (first_number + i) grows (are.each i before)
       | inr after ↦
-          let last : i ≡ length t.rows = omega (arith, below, after, ap (λ (v : Table). length v.rows) more, one_longer t.rows kids) in
+          let last : i ≡ length t.rows = omega (arith, below, after, ap (λ (v : Table). length v.rows) more, length_push t.rows kids) in
           made (first_number + i) (subst (λ (v : Table). IsSquareOf v.rows kids (first_number + i)) (sym more) (added t kids i last))
     ];
   }
@@ -64,6 +62,13 @@ pub record IsFor (rows : List (List ℕ)) (k n : ℕ) (s : Square) : Type 0 wher
   pub numbered : IsNumber rows (suc k) n
   pub square : square_in rows (suc k) n ≡ s
 
+-- the number of the square of four quadrants, where the table grew
+pub IsFor-joined : (t u : Table) (k n : ℕ) (kids : List ℕ) → AreNumbers t.rows k kids → Grows t u → IsSquareOf u.rows kids n → IsFor u.rows k n (square_of t.rows k kids)
+IsFor-joined t u k n kids are grows is = record {
+  numbered = IsNumber-joined u.rows k kids n is (AreNumbers-grows t u k kids grows are);
+  square = square_in-joined u.rows k kids n is ∙ square_of-grows t u k kids grows are;
+}
+
 pub IsAmong-for : (all : List Square) (rows : List (List ℕ)) (k n : ℕ) (s : Square) → IsFor rows k n s → Contains all s → IsAmong all rows n
 IsAmong-for all rows k n s is listed = record { level = k; numbered = is.numbered; listed = subst (Contains all) (sym is.square) listed }
 
@@ -73,3 +78,14 @@ Adds-joined t u kids k s grows step known = record {
   grows = grows;
   among = λ all made are. AreAmong-joined all t u kids grows step (λ n is. IsAmong-for all u.rows k n s (known n is) (All-head (Contains all) s [] made)) are;
 }
+
+-- four squares of a table, by their numbers
+module _ (t : Table) (level : ℕ) (quadrants : List handle.Square) (d : handle.Square) (size : length quadrants ≡ 4) (are : AreFour t level quadrants) where
+  number : (q : ℕ) → q < 4 → get_or (map number_of quadrants) q 0 ≡ number_of (slice_index_or quadrants q d)
+  number q h = get_or-map number_of quadrants q d 0 (omega (arith, size, h))
+
+  pub four_numbers : AreNumbers t.rows level (map number_of quadrants)
+  four_numbers = grind (arith, number)
+
+  pub four_cells : square_of t.rows level (map number_of quadrants) ≡ joined t (λ q. slice_index_or quadrants q d)
+  four_cells = grind (arith, number, are.alike)

@@ -1,7 +1,7 @@
 -- Numbers and the squares that they stand for.
-use Rattle.std.proofs.Common.{◌≡◌, ℕ, zero, suc, ◌-◌, ◌<◌, List, [], ◌∷◌, length, get_or, refl, sym, ◌∙◌, ap, ap₂, subst, arith}
+use Rattle.std.proofs.Common.{◌≡◌, ℕ, zero, suc, ◌-◌, ◌<◌, List, length, get_or, refl, ap, arith}
 use Rattle.std.proofs.lemmas.Grind.{common_steps}
-use Rattle.square_table.specs.Squares.{IsNumber, square_in, kid_at, kids_at, first_number, AreDistinct, level_of, number_of, NumbersTellSquares}
+use Rattle.square_table.specs.Squares.{IsNumber, square_in, kid_at, kids_at, first_number, AreDistinct, NumbersTellSquares}
 
 -- a number has one level
 pub one_level : (rows : List (List ℕ)) (j k n : ℕ) → IsNumber rows j n → IsNumber rows k n → j ≡ k
@@ -13,8 +13,7 @@ one_level rows (suc j) (suc k) n a b = ap suc (one_level rows j k (kid_at rows n
 
 -- lists of four numbers are one where the numbers are
 same_four : (xs ys : List ℕ) → length xs ≡ 4 → length ys ≡ 4 → get_or xs 0 0 ≡ get_or ys 0 0 → get_or xs 1 0 ≡ get_or ys 1 0 → get_or xs 2 0 ≡ get_or ys 2 0 → get_or xs 3 0 ≡ get_or ys 3 0 → xs ≡ ys
-same_four (a ∷ b ∷ c ∷ d ∷ []) (e ∷ f ∷ g ∷ h ∷ []) p q nw ne sw se = cc
-same_four xs ys p q nw ne sw se = grind (arith, common_steps)
+same_four q0 q1 q2 q3 q4 q5 q6 q7 = grind (arith, common_steps)
 
 -- the cells tell the number
 pub one_number : (rows : List (List ℕ)) → AreDistinct rows → (k m n : ℕ) → IsNumber rows k m → IsNumber rows k n → square_in rows k m ≡ square_in rows k n → m ≡ n
@@ -33,9 +32,4 @@ one_number rows are (suc k) m n a b same =
 
 -- in one table numbers are equal exactly where levels and cells are
 pub numbers-tell : NumbersTellSquares
-numbers-tell t are s1 s2 h1 h2 = (
-  (λ same.
-      let level = one_level t.rows (level_of s1) (level_of s2) (number_of s1) h1.numbered (subst (IsNumber t.rows (level_of s2)) (sym same) h2.numbered) in
-      (level, ap₂ (square_in t.rows) level same)),
-  (λ both. one_number t.rows are (level_of s1) (number_of s1) (number_of s2) h1.numbered (subst (λ k. IsNumber t.rows k (number_of s2)) (sym both.0) h2.numbered) (both.1 ∙ ap (λ k. square_in t.rows k (number_of s2)) (sym both.0))),
-)
+numbers-tell t are s1 s2 h1 h2 = grind (arith, one_level, one_number)

@@ -1,5 +1,5 @@
 use Rattle.std.proofs.Common.{◌+◌, ◌-◌, ◌<◌, length, slice_index, ◌∙◌, subst, arith}
-use Rattle.std.proofs.lemmas.List.{length-set}
+use Rattle.std.proofs.lemmas.List.{get_or_default, length-set}
 use Rattle.square_table.specs.Chains.{IsChained}
 use Rattle.square_table.proofs.Chained.{linked, before_all, same_kids}
 use Rattle.square_table.proofs.chains.chain_all.Goals as goal
@@ -14,5 +14,5 @@ loop-left-preserved c =
     record {
       within = omega (arith, length-set rows p (linked rows p (slice_index heads c.bucket-slot.result)), low);
       chained = before_all rows heads p _ chained low c.bucket-slot.ensures.within c.bucket-slot.ensures.value;
-      alike = same_kids rows p (slice_index heads c.bucket-slot.result) ∙ c.loop-left.invariant.alike;
+      alike = same_kids rows p (slice_index heads c.bucket-slot.result) _ low (get_or_default rows p _ _ low) ∙ c.loop-left.invariant.alike;
     }

@@ -1,4 +1,4 @@
-use Rattle.std.proofs.Common.{◌≡◌, ◌+◌, ◌<◌, ◌^◌, length, sym, ap, ◌∙◌, arith}
+use Rattle.std.proofs.Common.{sym, ap, ◌∙◌, arith}
 use Rattle.std.proofs.lemmas.List.{length_push}
 use Rattle.plane_core.specs.Rows.{Numbered}
 use Rattle.plane_core.proofs.Shared.Numbering.{number_row-empty}
@@ -15,14 +15,7 @@ pub returns-clause-rows : goal.returns-clause-rows
 returns-clause-rows c = ap (λ (r : Numbered). r.rows) (number_row-new c.args.row c.args.squares.now.items c.requires.new (sym c.eq.ensures ∙ c.if-eq.false)) ∙ sym c.in_ok-push.ensures.items
 
 pub returns-clause-number : goal.returns-clause-number
-returns-clause-number c =
-    let ok = c.push.new.self.ok in
-    let size = ap length c.in_ok-push.ensures.items ∙ length_push c.args.squares.now.items c.args.row in
-    ap (λ (r : Numbered). r.number) (number_row-new c.args.row c.args.squares.now.items c.requires.new (sym c.eq.ensures ∙ c.if-eq.false)) ∙ omega (arith, size, c.len-2.ensures)
+returns-clause-number c = grind (arith, length_push, number_row-new)
 
 pub returns-clause-few : goal.returns-clause-few
-returns-clause-few c =
-    let ok = c.push.new.self.ok in
-    let room : length c.args.squares.now.items + 1 < 2 ^ 32 = omega arith in
-    let size = ap length c.in_ok-push.ensures.items ∙ length_push c.args.squares.now.items c.args.row in
-    omega (arith, size, room)
+returns-clause-few c = grind (arith, length_push)

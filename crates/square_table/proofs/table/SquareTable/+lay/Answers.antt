@@ -1,28 +1,18 @@
-use Rattle.std.proofs.Common.{rules, ◌≡◌, ◌-◌, ◌<◌, get_or, subst, arith}
+use Rattle.std.proofs.Common.{rules, ◌≡◌, ◌-◌, ◌<◌, subst, arith}
 use Rattle.square_tree.specs.Quadtree.{quadtree, quadtree_of_four, cell, HasLevel}
 use Rattle.square_table.specs.Squares.{first_number}
-use Rattle.square_table.proofs.Shared.Tables.{above_zero}
 use Rattle.square_table.proofs.Shared.Growth.{Grows-then, IsNumber-grows}
 use Rattle.square_table.proofs.Laying.{in_turn, joined-laid, laid-state, quadrants_of}
 use Rattle.square_table.proofs.table.SquareTable.+lay.Goals as goal
 
 pub lay_four-lay_tree-requires-2 : goal.lay_four-lay_tree-requires-2
-lay_four-lay_tree-requires-2 g t c κs within =
-    let number = IsNumber-grows c.args.self.now c.lay_tree.new.self (c.args.level - 1) (get_or c.args.kids 1 0) c.in_ok-nw.ensures.grows c.requires.kids.ne in
-    (omega (arith, c.decreases, c.requires.level.0), search (rules, number))
+lay_four-lay_tree-requires-2 g t c κs within = grind (arith, IsNumber-grows)
 
 pub lay_four-lay_tree-requires-3 : goal.lay_four-lay_tree-requires-3
-lay_four-lay_tree-requires-3 g t c κs within =
-    let grows = Grows-then c.args.self.now c.lay_tree.new.self c.lay_tree-2.new.self c.in_ok-nw.ensures.grows c.in_ok-ne.ensures.grows in
-    let number = IsNumber-grows c.args.self.now c.lay_tree-2.new.self (c.args.level - 1) (get_or c.args.kids 2 0) grows c.requires.kids.sw in
-    (omega (arith, c.decreases, c.requires.level.0), search (rules, number))
+lay_four-lay_tree-requires-3 g t c κs within = grind (arith, Grows-then, IsNumber-grows)
 
 pub lay_four-lay_tree-requires-4 : goal.lay_four-lay_tree-requires-4
-lay_four-lay_tree-requires-4 g t c κs within =
-    let grows = Grows-then c.args.self.now c.lay_tree.new.self c.lay_tree-2.new.self c.in_ok-nw.ensures.grows c.in_ok-ne.ensures.grows in
-    let more = Grows-then c.args.self.now c.lay_tree-2.new.self c.lay_tree-3.new.self grows c.in_ok-sw.ensures.grows in
-    let number = IsNumber-grows c.args.self.now c.lay_tree-3.new.self (c.args.level - 1) (get_or c.args.kids 3 0) more c.requires.kids.se in
-    (omega (arith, c.decreases, c.requires.level.0), search (rules, number))
+lay_four-lay_tree-requires-4 g t c κs within = grind (arith, Grows-then, IsNumber-grows)
 
 pub lay_four-returns-clause-laid : goal.lay_four-returns-clause-laid
 lay_four-returns-clause-laid g t c =
@@ -30,16 +20,6 @@ lay_four-returns-clause-laid g t c =
     c.args.self.now c.lay_tree.new.self c.lay_tree-2.new.self c.lay_tree-3.new.self c.lay_tree-4.new.self (c.args.level - 1) c.args.kids c.in_ok-nw.nw c.in_ok-ne.ne c.in_ok-sw.sw c.in_ok-se.se
     c.requires.kids c.in_ok-nw.ensures.grows c.in_ok-ne.ensures.grows c.in_ok-sw.ensures.grows c.in_ok-se.ensures.grows
     c.in_ok-nw.ensures.laid c.in_ok-ne.ensures.laid c.in_ok-sw.ensures.laid c.in_ok-se.ensures.laid
-
-pub lay_tree-quadrants-requires-clause-above : goal.lay_tree-quadrants-requires-clause-above
-lay_tree-quadrants-requires-clause-above g t c =
-    let low : 0 < c.args.level = search rules in
-    (above_zero c.args.self.now.rows c.args.level c.args.number low c.requires.number).0
-
-pub lay_tree-quadrants-requires-clause-there : goal.lay_tree-quadrants-requires-clause-there
-lay_tree-quadrants-requires-clause-there g t c =
-    let low : 0 < c.args.level = search rules in
-    (above_zero c.args.self.now.rows c.args.level c.args.number low c.requires.number).1
 
 pub lay_tree-lay_four-requires : goal.lay_tree-lay_four-requires
 lay_tree-lay_four-requires g t c κs within =
@@ -56,8 +36,4 @@ lay_tree-returns-in-Cell-clause-laid g t c =
     laid-state (quadtree c.args.tree.now) c.args.self.now.rows c.args.self.now.rows c.args.level c.args.number c.from.result same c.requires.level few
 
 pub lay_tree-returns-in_ok-kids-in-Quad-clause-laid : goal.lay_tree-returns-in_ok-kids-in-Quad-clause-laid
-lay_tree-returns-in_ok-kids-in-Quad-clause-laid g t c =
-    let low : 0 < c.args.level = search rules in
-    let same : quadtree c.args.tree.now ≡ quadtree_of_four c.deref.result.now = search rules in
-    joined-laid c.join_numbers.result (quadtree_of_four c.deref.result.now) (quadtree c.args.tree.now) c.args.self.now c.lay_four.new.self c.join_numbers.new.self c.args.level c.args.number c.quadrants.result c.in_ok-kids-in-Quad.kids
-    low same c.quadrants.ensures c.in_ok-kids-in-Quad.ensures.laid c.join_numbers.ensures.grows c.join_numbers.ensures.square
+lay_tree-returns-in_ok-kids-in-Quad-clause-laid g t c = grind (arith, joined-laid)

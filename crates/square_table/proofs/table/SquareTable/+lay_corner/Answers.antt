@@ -1,28 +1,12 @@
-use Rattle.std.proofs.Common.{rules, ◌≡◌, ◌-◌, ◌<◌, ◌≤◌, suc, length, ap, arith}
+use Rattle.std.proofs.Common.{rules, ◌≡◌, ◌-◌, ◌<◌, suc, length, ap, arith}
 use Rattle.square_tree.specs.Quadtree.{quadtree}
 use Rattle.square_table.specs.Laying.{in_quadrant, in_corner}
-use Rattle.square_table.proofs.Shared.Tables.{above_zero}
 use Rattle.square_table.proofs.Packing.{number_at}
 use Rattle.square_table.proofs.Laying.{joined-laid, laid-quadrant, quadrants_of}
 use Rattle.square_table.proofs.table.SquareTable.+lay_corner.Goals as goal
 
-pub quadrants-kids-requires-clause-above : goal.quadrants-kids-requires-clause-above
-quadrants-kids-requires-clause-above g t c =
-    let low : 0 < c.args.level = omega (arith, c.if-level-tree_level.false, c.requires.levels.1) in
-    (above_zero c.args.self.now.rows c.args.level c.args.number low c.requires.number.0).0
-
-pub quadrants-kids-requires-clause-there : goal.quadrants-kids-requires-clause-there
-quadrants-kids-requires-clause-there g t c =
-    let low : 0 < c.args.level = omega (arith, c.if-level-tree_level.false, c.requires.levels.1) in
-    (above_zero c.args.self.now.rows c.args.level c.args.number low c.requires.number.0).1
-
 pub lay_corner-requires : goal.lay_corner-requires
-lay_corner-requires g t c κs within =
-    let less : c.args.tree_level ≤ c.args.level - 1 = omega (arith, c.if-level-tree_level.false, c.requires.levels.1) in
-    let low : 0 < c.args.level = omega (arith, c.if-level-tree_level.false, c.requires.levels.1) in
-    let numbers = quadrants_of c.args.self.now.rows c.args.level (c.args.level - 1) c.args.number c.quadrants-kids.result (omega (arith, low)) c.requires.number.0 c.quadrants-kids.ensures in
-    let number = number_at c.args.self.now.rows (c.args.level - 1) c.quadrants-kids.result c.args.corner c.requires.number.1 numbers in
-    search (rules, less, low, number)
+lay_corner-requires g t c κs within = grind (arith, quadrants_of, number_at)
 
 pub returns-clause-laid : goal.returns-clause-laid
 returns-clause-laid g t c =

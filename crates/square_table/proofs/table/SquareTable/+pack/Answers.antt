@@ -1,8 +1,7 @@
-use Rattle.std.proofs.Common.{◌≡◌, ◌-◌, ◌<◌, ◌≤◌, None, refl, sym, ap, ◌∙◌, arith}
+use Rattle.std.proofs.Common.{◌≡◌, ◌-◌, None, sym, ap, ◌∙◌, arith}
 use Rattle.std.specs.Prelude.{nat_eq}
 use Rattle.std.specs.HashMap.{get}
 use Rattle.std.specs.Option.{option_copied}
-use Rattle.square_table.proofs.Shared.Tables.{above_zero}
 use Rattle.square_table.proofs.Packing.{level_suc, packed_more, packed_state, packs_none, packs_then, quadrant_numbers, recalled, unknown_new, walk_whole}
 use Rattle.square_table.proofs.table.SquareTable.+pack.Goals as goal
 
@@ -16,24 +15,10 @@ pub pack_kids-pack_square-requires-4 : goal.pack_kids-pack_square-requires-4
 pack_kids-pack_square-requires-4 t c = (omega (arith, c.decreases), (c.requires.level, (c.requires.kids.se, c.in_ok-sw.ensures.packs.packing)))
 
 pub pack_kids-returns-clause-walks : goal.pack_kids-returns-clause-walks
-pack_kids-returns-clause-walks t c = record {
-  count = refl;
-  first = c.pack_square.new.packed.squares.items;
-  second = c.pack_square-2.new.packed.squares.items;
-  third = c.pack_square-3.new.packed.squares.items;
-  nw = c.in_ok-nw.ensures.walks;
-  ne = c.in_ok-ne.ensures.walks;
-  sw = c.in_ok-sw.ensures.walks;
-  se = c.in_ok-se.ensures.walks;
-}
+pack_kids-returns-clause-walks t c = grind (arith)
 
 pub pack_kids-returns-clause-packs : goal.pack_kids-returns-clause-packs
-pack_kids-returns-clause-packs t c =
-    let rows = c.args.self.now.rows in
-    let k = c.args.level in
-    packs_then rows k c.args.packed.now c.pack_square.new.packed c.pack_square-4.new.packed c.in_ok-nw.ensures.packs
-    (packs_then rows k c.pack_square.new.packed c.pack_square-2.new.packed c.pack_square-4.new.packed c.in_ok-ne.ensures.packs
-    (packs_then rows k c.pack_square-2.new.packed c.pack_square-3.new.packed c.pack_square-4.new.packed c.in_ok-sw.ensures.packs c.in_ok-se.ensures.packs))
+pack_kids-returns-clause-packs t c = grind (arith, packs_then)
 
 pub pack_square-returns-then-level-eq0-clause-walks : goal.pack_square-returns-then-level-eq0-clause-walks
 pack_square-returns-then-level-eq0-clause-walks t c = packed_state c.args.self.now.rows c.args.packed.now.squares.items c.args.level c.args.number c.if-level-eq0.true
@@ -42,18 +27,10 @@ pub pack_square-returns-then-level-eq0-clause-packs : goal.pack_square-returns-t
 pack_square-returns-then-level-eq0-clause-packs t c = packs_none c.args.self.now.rows c.args.level c.args.packed.now c.requires.packed
 
 pub pack_square-returns-in-Some-clause-walks : goal.pack_square-returns-in-Some-clause-walks
-pack_square-returns-in-Some-clause-walks t c =
-    recalled c.args.self.now.rows c.args.packed.now c.args.level c.args.number c.in-Some.known.now (omega (arith, c.if-level-eq0.false)) c.requires.packed c.requires.number
-    (sym c.get.ensures.value ∙ ap option_copied c.in-Some.is)
+pack_square-returns-in-Some-clause-walks t c = grind (arith, recalled)
 
 pub pack_square-returns-in-Some-clause-packs : goal.pack_square-returns-in-Some-clause-packs
 pack_square-returns-in-Some-clause-packs t c = packs_none c.args.self.now.rows c.args.level c.args.packed.now c.requires.packed
-
-pub pack_square-quadrants-requires-clause-above : goal.pack_square-quadrants-requires-clause-above
-pack_square-quadrants-requires-clause-above t c = (above_zero c.args.self.now.rows c.args.level c.args.number (omega (arith, c.if-level-eq0.false)) c.requires.number).0
-
-pub pack_square-quadrants-requires-clause-there : goal.pack_square-quadrants-requires-clause-there
-pack_square-quadrants-requires-clause-there t c = (above_zero c.args.self.now.rows c.args.level c.args.number (omega (arith, c.if-level-eq0.false)) c.requires.number).1
 
 pub pack_square-pack_kids-requires : goal.pack_square-pack_kids-requires
 pack_square-pack_kids-requires t c = (
@@ -66,14 +43,7 @@ pack_square-pack_kids-requires t c = (
 
 -- a square that wasn't seen before is not seen among its quadrants either
 pub pack_square-complete-requires-clause-new : goal.pack_square-complete-requires-clause-new
-pack_square-complete-requires-clause-new t c =
-    let rows = c.args.self.now.rows in
-    let k = c.args.level in
-    let some : 0 < k = omega (arith, c.if-level-eq0.false) in
-    let packs = c.in_ok-kids.ensures.packs in
-    let none : get nat_eq c.args.packed.now.numbers c.args.number ≡ None = sym c.get.ensures.value ∙ ap option_copied c.in_default.is in
-    unknown_new rows c.pack_kids.new.packed c.args.packed.now.squares.items k (k - 1) c.args.number c.quadrants.result c.in_ok-kids.kids (level_suc k some) packs.packing (omega (arith, c.requires.level)) c.requires.number
-    c.quadrants.ensures c.in_ok-kids.ensures.walks (packs.above k c.args.number (omega (arith, some)) c.requires.number ∙ none)
+pack_square-complete-requires-clause-new t c = grind (arith, unknown_new, level_suc)
 
 pub pack_square-complete-requires-clause-few : goal.pack_square-complete-requires-clause-few
 pack_square-complete-requires-clause-few t c = c.in_ok-kids.ensures.packs.packing.few

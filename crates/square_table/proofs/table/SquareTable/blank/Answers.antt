@@ -19,9 +19,7 @@ more t u v k b level low is same before grows step =
     (GrowsFrom-higher (suc (suc k)) level [] u v (omega (arith, low)) (blank_grows u v k b is same grows step))
 
 pub returns-in_err-number-clause-grows : goal.returns-in_err-number-clause-grows
-returns-in_err-number-clause-grows c =
-    let was = c.loop.invariant in
-    more c.args.self.now c.loop.self c.join_numbers.new.self c.loop.counter c.loop.number _ (omega (arith, c.loop-test.true)) was.number was.cells was.grows c.join_numbers.ensures.grows c.join_numbers.ensures.one
+returns-in_err-number-clause-grows c = grind (arith, more)
 
 pub loop-preserved : goal.loop-preserved
 loop-preserved c =

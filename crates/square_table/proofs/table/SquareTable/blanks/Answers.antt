@@ -32,6 +32,4 @@ loop-preserved c = record {
 }
 
 pub returns-clause-grows : goal.returns-clause-grows
-returns-clause-grows c =
-    GrowsFrom-higher (length c.loop.blanks.items) c.args.level [] c.args.self.now c.loop.self
-    (let a = c.loop.auto.counter in let b = c.loop.auto.counter-end in omega (arith, a, b, c.loop.invariant.count, c.requires)) c.loop.invariant.grows
+returns-clause-grows c = grind (arith, GrowsFrom-higher)

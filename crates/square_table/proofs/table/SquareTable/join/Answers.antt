@@ -1,33 +1,27 @@
-use Rattle.std.proofs.Common.{◌≡◌, ◌+◌, [], length, slice_index_or, ◌∙◌, ap, refl, rules}
+use Rattle.std.proofs.Common.{◌≡◌, ◌+◌, [], length, slice_index_or, ◌∙◌, ap, sym, add-one, subst, arith, rules}
+use Rattle.std.proofs.lemmas.List.{get_or_default}
 use Rattle.square_table.specs.declared.square.Square.{Square}
-use Rattle.square_table.specs.Squares.{Keeps, level_of}
+use Rattle.square_table.specs.Squares.{IsSquareOf, level_of}
 use Rattle.square_table.proofs.Shared.Growth.{Keeps-grows}
-use Rattle.square_table.proofs.Shared.Tables.{AreFour-kept, IsHeld-joined, cells-joined, joined-kept, same_first}
+use Rattle.square_table.proofs.Shared.Making.{IsFor-joined, four_numbers, four_cells}
 use Rattle.square_table.proofs.table.SquareTable.join.Goals as goal
 
-size : (c : goal.In_ok-number) → length c.args.four ≡ 4
-size c = search rules
-
-keeps : (c : goal.In_ok-number) → Keeps c.args.self.now c.join_numbers.new.self
-keeps c = Keeps-grows c.args.self.now c.join_numbers.new.self c.join_numbers.ensures.grows
-
 pub returns-clause-keeps : goal.returns-clause-keeps
-returns-clause-keeps c = keeps c
+returns-clause-keeps c = Keeps-grows c.args.self.now c.join_numbers.new.self c.join_numbers.ensures.grows
 
 pub returns-clause-joined : goal.returns-clause-joined
 returns-clause-joined c =
-    let r = c.in_ok-number.ensures.square in
+    let t = c.args.self.now in
+    let u = c.join_numbers.new.self in
+    let four = c.args.four in
+    let size : length four ≡ 4 = search rules in
     let none : Square = record { kids = record { ref_ptr = (0, 0); now = [] }; number = 0; level = 0 } in
-    let s : Square = record { kids = c.in_ok-placed.placed; number = c.in_ok-number.number; level = level_of (slice_index_or c.args.four 0 none) + 1 } in
+    let k = level_of (slice_index_or four 0 none) in
+    let are = c.requires.four none in
+    let square = c.in_ok-number.ensures.square in
+    let made = IsFor-joined t u k c.in_ok-number.number _ (four_numbers t k four none size are) c.join_numbers.ensures.grows (subst (λ ks. IsSquareOf u.rows ks c.in_ok-number.number) c.numbers-kids.ensures square) in
     record {
-      held =
-          let d = slice_index_or c.args.four 0 _ in
-          IsHeld-joined c.join_numbers.new.self _ c.args.four (level_of d) (size c) (λ e. AreFour-kept c.args.self.now c.join_numbers.new.self (level_of d) c.args.four (keeps c) (c.requires.four _))
-          refl r.above r.there (r.listed ∙ c.numbers-kids.ensures) (c.in_ok-placed.ensures ∙ c.numbers-kids.ensures);
-      level = λ d. ap (λ (q : Square). level_of q + 1) (same_first c.args.four none d (size c));
-      cells = λ d.
-          let level = level_of (slice_index_or c.args.four 0 d) in
-          cells-joined c.join_numbers.new.self s c.args.four level (size c) (λ e. AreFour-kept c.args.self.now c.join_numbers.new.self level c.args.four (keeps c) (c.requires.four d))
-          (ap (λ (q : Square). level_of q + 1) (same_first c.args.four none d (size c))) r.above r.there (r.listed ∙ c.numbers-kids.ensures) d
-          ∙ joined-kept c.args.self.now c.join_numbers.new.self level c.args.four d (keeps c) (c.requires.four d);
+      held = record { numbered = rw add-one made.numbered; quadrants = λ some. c.in_ok-placed.ensures ∙ sym square.listed };
+      level = λ d. ap (λ (q : Square). level_of q + 1) (get_or_default four 0 none d (omega (arith, size)));
+      cells = λ d. rw add-one (made.square ∙ four_cells t k four d size are);
     }

@@ -1,27 +1,14 @@
 use Rattle.std.proofs.Common.{◌≡◌, ◌+◌, ◌-◌, ◌<◌, [], ◌∷◌, ◌++◌, length, map, get_or, slice_index_or, sym, ◌∙◌, ap, subst, arith}
-use Rattle.square_table.specs.Chains.{kids_of, IsAbsent, IsChained}
-use Rattle.square_table.specs.Squares.{AreDistinct, Lacks, IsSquareOf, Table}
+use Rattle.square_table.specs.Chains.{kids_of}
+use Rattle.square_table.specs.Squares.{IsSquareOf, Table}
 use Rattle.square_table.specs.declared.chains.Row.{Row}
 use Rattle.square_table.proofs.Links.{whole_heads}
-use Rattle.square_table.proofs.Shared.Tables.{AreDistinct-more, Lacks-rows, length_map, one_longer, row_kids}
+use Rattle.square_table.proofs.Shared.Tables.{AreDistinct-more, Lacks-rows, row_kids}
+use Rattle.std.proofs.lemmas.List.{length-map, length_push}
 use Rattle.square_table.proofs.table.SquareTable.join_numbers.Goals as goal
 
 pub invariant_of-self-in-Err : goal.invariant_of-self-in-Err
-invariant_of-self-in-Err c =
-    let inside = c.self.inside in
-    let rows = inside.rows.items in
-    let new = c.append.new.rows.items in
-    let is : map kids_of new ≡ map kids_of rows ++ c.args.kids ∷ [] = c.in_ok-append-in-Err.ensures.ok in
-    let absent : IsAbsent rows c.args.kids = subst (λ v. IsAbsent v c.args.kids) c.deref.ensures.value c.in-Err.ensures.absent in
-    let distinct = AreDistinct-more _ _ c.self.invariant.1 (omega arith) (Lacks-rows rows c.args.kids absent) in
-    let count = c.in_ok-append-in-Err.ensures.count ∙ ap length c.deref_mut.ensures.value in
-    let heads = whole_heads inside.heads.len c.append.new.heads inside.heads.items inside.heads.ok.0 count in
-    let longer : length (map kids_of new) ≡ length (map kids_of rows) + 1 = ap length is ∙ one_longer (map kids_of rows) c.args.kids in (
-      subst (IsChained new 0) heads c.in_ok-append-in-Err.ensures.chained,
-      subst AreDistinct (sym is) distinct,
-      omega (arith, longer, length_map new, length_map rows, c.if-count-self.false, c.len-count.ensures, inside.rows.ok.0),
-      c.self.invariant.3,
-    )
+invariant_of-self-in-Err c = grind (arith, AreDistinct-more, Lacks-rows, whole_heads, length_push, length-map)
 
 pub returns-in-Ok-clause-square : goal.returns-in-Ok-clause-square
 returns-in-Ok-clause-square c =
@@ -31,7 +18,7 @@ returns-in-Ok-clause-square c =
     let found = c.in-Ok.ensures.found in
     let there : at < length rows = omega (arith, found.there, ap length c.deref.ensures.value) in
     let kids : kids_of (slice_index_or rows at d) ≡ c.args.kids = ap (λ v. kids_of (slice_index_or v at d)) (sym c.deref.ensures.value) ∙ found.kids_are d in
-    let size : length (map kids_of rows) ≡ length rows = length_map rows in
+    let size : length (map kids_of rows) ≡ length rows = length-map rows kids_of in
     let number : (256 + at) - 256 ≡ at = omega arith in
     subst (λ t. IsSquareOf t.rows c.args.kids (256 + at)) c.self.view_is (record {
       above = omega arith;

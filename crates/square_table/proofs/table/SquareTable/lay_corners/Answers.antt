@@ -1,4 +1,4 @@
-use Rattle.std.proofs.Common.{◌≡◌, ◌-◌, ◌<◌, [], ◌∷◌, get_or, subst, arith, lit<}
+use Rattle.std.proofs.Common.{◌≡◌, ◌-◌, ◌<◌, [], ◌∷◌, subst, arith}
 use Rattle.square_tree.specs.Quadtree.{quadtree, quadtree_of_four}
 use Rattle.square_table.specs.Laying.{AreLaidAs, in_corner, in_middle}
 use Rattle.square_table.proofs.Shared.Growth.{Grows-then, IsNumber-grows}
@@ -6,19 +6,13 @@ use Rattle.square_table.proofs.Laying.{in_turn}
 use Rattle.square_table.proofs.table.SquareTable.lay_corners.Goals as goal
 
 pub lay_corner-requires-2-clause-number : goal.lay_corner-requires-2-clause-number
-lay_corner-requires-2-clause-number g c =
-    (IsNumber-grows c.args.self.now c.lay_corner.new.self (c.args.level - 1) (get_or c.args.kids 1 0) c.in_ok-nw.ensures.grows c.requires.kids.ne, lit< tt)
+lay_corner-requires-2-clause-number g c = grind (arith, IsNumber-grows)
 
 pub lay_corner-requires-3-clause-number : goal.lay_corner-requires-3-clause-number
-lay_corner-requires-3-clause-number g c =
-    let grows = Grows-then c.args.self.now c.lay_corner.new.self c.lay_corner-2.new.self c.in_ok-nw.ensures.grows c.in_ok-ne.ensures.grows in
-    (IsNumber-grows c.args.self.now c.lay_corner-2.new.self (c.args.level - 1) (get_or c.args.kids 2 0) grows c.requires.kids.sw, lit< tt)
+lay_corner-requires-3-clause-number g c = grind (arith, Grows-then, IsNumber-grows)
 
 pub lay_corner-requires-4-clause-number : goal.lay_corner-requires-4-clause-number
-lay_corner-requires-4-clause-number g c =
-    let grows = Grows-then c.args.self.now c.lay_corner.new.self c.lay_corner-2.new.self c.in_ok-nw.ensures.grows c.in_ok-ne.ensures.grows in
-    let more = Grows-then c.args.self.now c.lay_corner-2.new.self c.lay_corner-3.new.self grows c.in_ok-sw.ensures.grows in
-    (IsNumber-grows c.args.self.now c.lay_corner-3.new.self (c.args.level - 1) (get_or c.args.kids 3 0) more c.requires.kids.se, lit< tt)
+lay_corner-requires-4-clause-number g c = grind (arith, Grows-then, IsNumber-grows)
 
 pub returns-clause-laid : goal.returns-clause-laid
 returns-clause-laid g c =

@@ -1,8 +1,7 @@
-use Rattle.std.proofs.Common.{rules, ◌≡◌, ◌-◌, ◌<◌, suc, length, ap, sym, subst, arith, lit<}
-use Rattle.square_tree.specs.Quadtree.{quadtree, quadtree_of_four, cell, HasLevel}
+use Rattle.std.proofs.Common.{rules, ◌≡◌, ◌-◌, ◌<◌, suc, length, sym, subst, arith, lit<}
+use Rattle.square_tree.specs.Quadtree.{quadtree, cell, HasLevel}
 use Rattle.square_table.specs.Squares.{first_number}
 use Rattle.square_table.specs.Laying.{in_quadrant, in_corner, in_middle, IsLaidAs}
-use Rattle.square_table.proofs.Shared.Tables.{above_zero}
 use Rattle.square_table.proofs.Laying.{joined-laid, laid-cell, laid-quadrant, quadrants_of}
 use Rattle.square_table.proofs.Middles.{middle_cell, middle_zero}
 use Rattle.square_table.proofs.table.SquareTable.lay_middle.Goals as goal
@@ -16,26 +15,10 @@ returns-then-level-eq0-clause-laid g c =
     subst (λ t. IsLaidAs t rows c.args.level c.args.number rows c.from.result) (sym (middle_zero (quadtree c.args.tree.now) c.from.result (c.args.level - c.args.tree_level) same none))
     (laid-cell rows rows c.args.level c.args.number c.from.result c.if-level-eq0.true few)
 
-pub quadrants-kids-requires-clause-above : goal.quadrants-kids-requires-clause-above
-quadrants-kids-requires-clause-above g c = (above_zero c.args.self.now.rows c.args.level c.args.number (omega (arith, c.if-level-eq0.false)) c.requires.number).0
-
-pub quadrants-kids-requires-clause-there : goal.quadrants-kids-requires-clause-there
-quadrants-kids-requires-clause-there g c = (above_zero c.args.self.now.rows c.args.level c.args.number (omega (arith, c.if-level-eq0.false)) c.requires.number).1
-
 pub lay_corner-requires-clause-number : goal.lay_corner-requires-clause-number
 lay_corner-requires-clause-number g c =
     let numbers = quadrants_of c.args.self.now.rows c.args.level (c.args.level - 1) c.args.number c.quadrants-kids.result (omega (arith, c.if-level-eq0.false)) c.requires.number c.quadrants-kids.ensures in
     (numbers.se, lit< tt)
-
-pub quadrants-requires-clause-above : goal.quadrants-requires-clause-above
-quadrants-requires-clause-above g c =
-    let some : 0 < c.args.tree_level = search rules in
-    (above_zero c.args.self.now.rows c.args.level c.args.number (omega (arith, some, c.requires.levels.1)) c.requires.number).0
-
-pub quadrants-requires-clause-there : goal.quadrants-requires-clause-there
-quadrants-requires-clause-there g c =
-    let some : 0 < c.args.tree_level = search rules in
-    (above_zero c.args.self.now.rows c.args.level c.args.number (omega (arith, some, c.requires.levels.1)) c.requires.number).1
 
 pub lay_corners-requires-clause-kids : goal.lay_corners-requires-clause-kids
 lay_corners-requires-clause-kids g c =
@@ -58,10 +41,4 @@ returns-in_ok-kids-in-Cell-clause-laid g c =
     c.join_numbers.ensures.grows c.join_numbers.ensures.square
 
 pub returns-in_ok-kids-in-Quad-clause-laid : goal.returns-in_ok-kids-in-Quad-clause-laid
-returns-in_ok-kids-in-Quad-clause-laid g c =
-    let some : 0 < c.args.tree_level = search rules in
-    let same : quadtree c.args.tree.now ≡ quadtree_of_four c.deref.result.now = search rules in
-    let d = c.args.level - c.args.tree_level in
-    joined-laid c.join_numbers-in-Quad.result (in_middle d (quadtree_of_four c.deref.result.now)) (in_middle d (quadtree c.args.tree.now)) c.args.self.now c.lay_corners.new.self c.join_numbers-in-Quad.new.self
-    c.args.level c.args.number c.quadrants.result c.in_ok-kids-in-Quad.kids
-    (omega (arith, some, c.requires.levels.1)) (ap (in_middle d) same) c.quadrants.ensures c.in_ok-kids-in-Quad.ensures.laid c.join_numbers-in-Quad.ensures.grows c.join_numbers-in-Quad.ensures.square
+returns-in_ok-kids-in-Quad-clause-laid g c = grind (arith, joined-laid)

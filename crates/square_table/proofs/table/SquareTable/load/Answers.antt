@@ -13,17 +13,15 @@ use Rattle.square_table.specs.declared.square.Square.{Square}
 use Rattle.square_table.specs.Squares.{Table, Tells, level_of, cells_of}
 use Rattle.square_table.specs.Centred.{edge, IsCentred}
 use Rattle.square_table.specs.Made.{HoldsWithin, HasEmpty}
-use Rattle.square_table.specs.Loading.{LevelsUpTo, GrowsFrom, GrowsFor, IsRootLevel, TellsWorld, empty_below}
+use Rattle.square_table.specs.Loading.{GrowsFrom, GrowsFor, IsRootLevel, empty_below}
 use Rattle.square_table.proofs.Shared.Growth.{Grows-same}
-use Rattle.square_table.proofs.Listing.{listed_root}
+use Rattle.square_table.proofs.Listing.{each_square}
 use Rattle.square_table.proofs.Canonical.{cells_below, levels_up_to}
 use Rattle.square_table.proofs.Shared.Centring.{root_centred}
 use Rattle.square_table.proofs.table.SquareTable.load.Goals as goal
 
 pub load_root-requires : goal.load_root-requires
-load_root-requires c =
-    subst (λ (rows : List SquareRow). AreRows rows × LevelsUpTo (root_level rows) rows) (sym c.deref.ensures.value)
-    (c.in_ok-squares.ensures.squares.canonical.valid, levels_up_to c.args.plane.now c.in_ok-squares.squares.items c.in_ok-squares.ensures.squares)
+load_root-requires c = grind (arith, levels_up_to)
 
 first_empty : (all : List squares.Square) → HoldsWithin (Contains all) (empty_square 1) → Contains all (empty_square 1)
 unfolding HoldsWithin empty_square
@@ -38,7 +36,7 @@ loaded w rows t u is grows = record {
       let low = (rooted rows is.canonical.valid).low in
       let at : root_of rows ≡ square_at w (root_level rows) (edge (root_level rows)) (edge (root_level rows)) = (subst (λ (v : World). IsCentred v (root_level rows) (root_of rows)) is.world (root_centred rows is.canonical.valid)).square in
       let within : HoldsWithin (Contains all) (root_of rows) = subst (HoldsWithin (Contains all)) (sym at) (start.squares (root_level rows) low level) in
-      grows.among all (empty_held all rows k level within start.empty) (listed_root all rows is.canonical within) are;
+      grows.among all (empty_held all rows k level within start.empty) (each_square (Contains all) rows is.canonical within) are;
 }
   where
     empty_held : (all : List squares.Square) (rows : List SquareRow) (k : ℕ) → root_level rows ≤ k → HoldsWithin (Contains all) (root_of rows) → HasEmpty all k → HasEmpty all (empty_below rows)
@@ -58,30 +56,13 @@ pub returns-clause-grows : goal.returns-clause-grows
 returns-clause-grows c = loaded_seen c.args.plane.now c.in_ok-squares.squares.items c.deref.result.now c.args.self.now c.load_root.new.self c.in_ok-squares.ensures.squares c.deref.ensures.value c.load_root.ensures.grows
 
 root_low : (w : World) (rows seen : List SquareRow) (k : ℕ) → AreSquaresOf w rows → seen ≡ rows → k ≡ root_level seen → IsRootLevel k w
-root_low w rows seen k are same level =
-    let is = rooted rows are.canonical.valid in
-    subst (λ j. IsRootLevel j w) (sym (level ∙ ap root_level same))
-    (record { low = is.low; high = is.high; least = subst (IsLeastLevel (root_level rows)) are.world are.canonical.least })
+root_low w rows seen k are same level = grind (arith, rooted)
 
 centred : (s : Square) (w : World) (rows seen : List SquareRow) (t : Table) → AreSquaresOf w rows → seen ≡ rows → Tells t (root_level seen) (root_of seen) s → IsCentred w (level_of s) (cells_of t s)
-centred s w rows seen t are same is =
-    subst (λ k. IsCentred w k (cells_of t s)) (sym (is.level ∙ ap root_level same))
-    (subst (IsCentred w (root_level rows)) (sym (is.cells ∙ ap root_of same))
-    (subst (λ (v : World). IsCentred v (root_level rows) (root_of rows)) are.world (root_centred rows are.canonical.valid)))
+centred s w rows seen t are same is = grind (arith, root_centred)
 
 pub returns-clause-square : goal.returns-clause-square
-returns-clause-square c =
-    let w = c.args.plane.now in
-    let rows = c.in_ok-squares.squares.items in
-    let seen = c.deref.result.now in
-    let t = c.load_root.new.self in
-    IfOk_then c.load_root.result (Tells t (root_level seen) (root_of seen)) (TellsWorld t w)
-    (λ s is. record {
-      held = is.held;
-      level = root_low w rows seen (level_of s) c.in_ok-squares.ensures.squares c.deref.ensures.value is.level;
-      centred = centred s w rows seen t c.in_ok-squares.ensures.squares c.deref.ensures.value is;
-    })
-    c.load_root.ensures.square
+returns-clause-square c = grind (arith, IfOk_then, root_low, centred)
 
 pub returns-clause-states : goal.returns-clause-states
 returns-clause-states c = λ n low below old.

@@ -1,4 +1,4 @@
-use Rattle.std.proofs.Common.{◌≡◌, ◌-◌, ◌<◌, ◌≤◌, ℕ, List, [], ◌∷◌, length, get_or, refl, ap, sym, ◌∙◌, subst, arith, lit<}
+use Rattle.std.proofs.Common.{◌≡◌, ◌-◌, ◌<◌, ◌≤◌, ℕ, List, [], ◌∷◌, length, get_or, sym, subst, arith}
 use Rattle.plane_core.specs.declared.row.SquareRow.{SquareRow}
 use Rattle.plane_core.specs.Rows.{no_row}
 use Rattle.square_table.specs.Loading.{AreLoaded, IsLoading, number_in}
@@ -11,36 +11,23 @@ below squares i = (get_or squares i no_row).level - 1
 
 is_next : (squares : List SquareRow) (blanks numbers : List ℕ) (rows : List (List ℕ)) (i : ℕ) → i ≡ length numbers → IsLoading squares blanks rows numbers → length numbers < length squares
     → IsNext squares blanks numbers rows i (below squares i)
-is_next squares blanks numbers rows i same is more =
-    record { at = same; valid = is.valid; levels = is.levels; more = omega (arith, same, more); blank = is.blank; known = is.loaded; level = refl }
+is_next squares blanks numbers rows i same is more = grind (arith)
 
 -- the q-th kid is 0 or the number of a row that is loaded
 early : (squares : List SquareRow) (blanks numbers seen : List ℕ) (rows : List (List ℕ)) (i q : ℕ) → IsNext squares blanks numbers rows i (below squares i) → q < 4 → seen ≡ numbers → 1 ≤ below squares i → next_kid squares i q ≤ length seen
 early squares blanks numbers seen rows i q next hq e h = subst (λ (ns : List ℕ). next_kid squares i q ≤ length ns) (sym e) ((next_found squares blanks numbers rows i (below squares i) q next hq).listed h)
 
 pub number_in-nw-requires-clause-listed : goal.number_in-nw-requires-clause-listed
-number_in-nw-requires-clause-listed c =
-    early c.args.squares.now c.args.blanks.now c.args.numbers.now.items _ c.args.self.now.rows c.len.result 0
-    (is_next c.args.squares.now c.args.blanks.now c.args.numbers.now.items c.args.self.now.rows c.len.result (omega (arith, c.len.ensures, c.args.numbers.now.ok.0)) c.requires.loading c.requires.more)
-    (lit< tt) c.deref.ensures.value
+number_in-nw-requires-clause-listed c = grind (arith, early, is_next)
 
 pub number_in-ne-requires-clause-listed : goal.number_in-ne-requires-clause-listed
-number_in-ne-requires-clause-listed c =
-    early c.args.squares.now c.args.blanks.now c.args.numbers.now.items _ c.args.self.now.rows c.len.result 1
-    (is_next c.args.squares.now c.args.blanks.now c.args.numbers.now.items c.args.self.now.rows c.len.result (omega (arith, c.len.ensures, c.args.numbers.now.ok.0)) c.requires.loading c.requires.more)
-    (lit< tt) c.deref-2.ensures.value
+number_in-ne-requires-clause-listed c = grind (arith, early, is_next)
 
 pub number_in-sw-requires-clause-listed : goal.number_in-sw-requires-clause-listed
-number_in-sw-requires-clause-listed c =
-    early c.args.squares.now c.args.blanks.now c.args.numbers.now.items _ c.args.self.now.rows c.len.result 2
-    (is_next c.args.squares.now c.args.blanks.now c.args.numbers.now.items c.args.self.now.rows c.len.result (omega (arith, c.len.ensures, c.args.numbers.now.ok.0)) c.requires.loading c.requires.more)
-    (lit< tt) c.deref-3.ensures.value
+number_in-sw-requires-clause-listed c = grind (arith, early, is_next)
 
 pub number_in-se-requires-clause-listed : goal.number_in-se-requires-clause-listed
-number_in-se-requires-clause-listed c =
-    early c.args.squares.now c.args.blanks.now c.args.numbers.now.items _ c.args.self.now.rows c.len.result 3
-    (is_next c.args.squares.now c.args.blanks.now c.args.numbers.now.items c.args.self.now.rows c.len.result (omega (arith, c.len.ensures, c.args.numbers.now.ok.0)) c.requires.loading c.requires.more)
-    (lit< tt) c.deref-4.ensures.value
+number_in-se-requires-clause-listed c = grind (arith, early, is_next)
 
 -- the numbers that are joined
 joined : (squares : List SquareRow) (blanks numbers s0 s1 s2 s3 : List ℕ) (i m0 m1 m2 m3 : ℕ) → s0 ≡ numbers → s1 ≡ numbers → s2 ≡ numbers → s3 ≡ numbers
@@ -48,10 +35,7 @@ joined : (squares : List SquareRow) (blanks numbers s0 s1 s2 s3 : List ℕ) (i m
     → m2 ≡ number_in blanks s2 (below squares i) (next_kid squares i 2) → m3 ≡ number_in blanks s3 (below squares i) (next_kid squares i 3)
     → (m0 ∷ m1 ∷ m2 ∷ m3 ∷ []) ≡ next_kids squares blanks numbers i (below squares i)
 unfolding next_kids
-joined squares blanks numbers s0 s1 s2 s3 i m0 m1 m2 m3 e0 e1 e2 e3 h0 h1 h2 h3 =
-    let n = λ (q : ℕ) (ns : List ℕ). number_in blanks ns (below squares i) (next_kid squares i q) in
-    let a = h0 ∙ ap (n 0) e0 in let b = h1 ∙ ap (n 1) e1 in let d = h2 ∙ ap (n 2) e2 in let e = h3 ∙ ap (n 3) e3 in
-    λ j. a j ∷ b j ∷ d j ∷ e j ∷ []
+joined squares blanks numbers s0 s1 s2 s3 i m0 m1 m2 m3 e0 e1 e2 e3 h0 h1 h2 h3 = grind (arith, next_kid)
 
 pub returns-in_err-push-clause-grows : goal.returns-in_err-push-clause-grows
 returns-in_err-push-clause-grows c =
