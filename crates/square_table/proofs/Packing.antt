@@ -33,10 +33,7 @@ number_at q0 q1 q2 q3 q4 q5 = grind (arith)
 
 -- the numbers of the quadrants of a square
 pub quadrant_numbers : (rows : List (List ℕ)) (k n : ℕ) (kids : List ℕ) → 0 < k → IsNumber rows k n → kids ≡ kids_at rows n → AreNumbers rows (k - 1) kids
-quadrant_numbers rows zero n kids low is read = absurd (omega (arith, low))
-quadrant_numbers rows (suc k) n kids low is read =
-    let less : k ≡ suc k - 1 = omega arith in
-    subst (λ j. AreNumbers rows j kids) less (subst (AreNumbers rows k) (sym read) (AreNumbers-quadrants rows k n is))
+quadrant_numbers rows k n kids low is read = rw read (AreNumbers-quadrants rows (k - 1) n (subst (λ j. IsNumber rows j n) (omega (arith, low)) is))
 
 pub level_suc : (k : ℕ) → 0 < k → k ≡ suc (k - 1)
 level_suc k h = omega (arith, h)
@@ -119,10 +116,8 @@ unknown_suc rows packed old k n kids all true packing high is read w unknown e =
 
 pub unknown_new : (rows : List (List ℕ)) (packed : Packed) (old : List SquareRow) (level k n : ℕ) (kids all : List ℕ) → level ≡ suc k → IsPacking rows packed → level ≤ 62 → IsNumber rows level n → kids ≡ kids_at rows n
     → WalksFour rows k kids old packed.squares.items all → get nat_eq packed.numbers n ≡ None → list_any (same_row (row_by level all)) packed.squares.items ≡ false
-unknown_new rows packed old zero k n kids all e packing high is read w unknown = absurd (omega (arith, e))
-unknown_new rows packed old (suc l) k n kids all e packing high is read w unknown =
-    let same : k ≡ l = omega (arith, e) in
-    unknown_suc rows packed old l n kids all _ packing (omega (arith, high)) is read (subst (λ j. WalksFour rows j kids old packed.squares.items all) same w) unknown refl
+unknown_new rows packed old level k n kids all e packing high is read w unknown =
+    rw e (unknown_suc rows packed old k n kids all _ packing (omega (arith, e, high)) (subst (λ j. IsNumber rows j n) e is) read w unknown refl)
 
 four_of : (xs : List ℕ) → length xs ≡ 4 → xs ≡ get_or xs 0 0 ∷ get_or xs 1 0 ∷ get_or xs 2 0 ∷ get_or xs 3 0 ∷ []
 four_of (a ∷ b ∷ c ∷ d ∷ []) e = refl
@@ -143,11 +138,7 @@ walk_of rows k kids all old mid new m w er en =
 
 pub walk_whole : (rows : List (List ℕ)) (level k n : ℕ) (kids all : List ℕ) (old mid new : List SquareRow) (m : ℕ) → level ≡ suc k → kids ≡ kids_at rows n → WalksFour rows k kids old mid all
     → (number_row (row_by level all) mid).rows ≡ new → (number_row (row_by level all) mid).number ≡ m → Walks level (square_in rows level n) old new m
-walk_whole rows zero k n kids all old mid new m e read w er en = absurd (omega (arith, e))
-walk_whole rows (suc l) k n kids all old mid new m e read w er en =
-    let same : k ≡ l = omega (arith, e) in
-    subst (λ (t : Square). Walks (suc l) t old new m) (sym (square_in-quadrants rows l n ∙ ap (square_of rows l) (sym read)))
-    (walk_of rows l kids all old mid new m (subst (λ j. WalksFour rows j kids old mid all) same w) er en)
+walk_whole rows level k n kids all old mid new m e read w er en = rw (e, square_in-quadrants rows k n, ← read) (walk_of rows k kids all old mid new m w (rw e at er) (rw e at en))
 
 -- a row that isn't there is the last, or empty
 row_by_tests : (b there : Bool) (row : SquareRow) (rows : List SquareRow) (n : ℕ) → there ≡ false → n ≡ length rows + 1
@@ -262,22 +253,14 @@ root_new rows level k kids all old done e none w = root_missing level k all done
 -- and the last of those that the walk completes
 pub rows_packed : (rows : List (List ℕ)) (level k : ℕ) (kids all : List ℕ) (old mid new : List SquareRow) → level ≡ suc k → old ≡ []
     → WalksFour rows k kids old mid all → (number_row (row_by level all) mid).rows ≡ new → completed level (square_of rows k kids) ≡ new
-rows_packed rows zero k kids all old mid new e none w er = absurd (omega (arith, e))
-rows_packed rows (suc l) k kids all old mid new e none w er =
-    let same : k ≡ l = omega (arith, e) in
-    let walk = walk_of rows l kids all old mid new _ (subst (λ j. WalksFour rows j kids old mid all) same w) er refl in
-    ap (λ j. completed (suc l) (square_of rows j kids)) same
-    ∙ ap (λ (rs : List SquareRow). (number_square (suc l) (square_of rows l kids) rs).rows) (sym none)
-    ∙ ap (λ (z : Numbered). z.rows) walk
+rows_packed rows level k kids all old mid new e none w er =
+    rw e (ap (λ (rs : List SquareRow). (number_square (suc k) (square_of rows k kids) rs).rows) (sym none) ∙ ap (λ (z : Numbered). z.rows) (walk_of rows k kids all old mid new _ w (rw e at er) refl))
 
 four_IsSquare : (rows : List (List ℕ)) (k : ℕ) (kids : List ℕ) → AreNumbers rows k kids → IsSquare (suc k) (square_of rows k kids)
 four_IsSquare rows k kids are = IsSquare-parts k _ _ _ _ (square_in-IsSquare rows k _ are.nw) (square_in-IsSquare rows k _ are.ne) (square_in-IsSquare rows k _ are.sw) (square_in-IsSquare rows k _ are.se)
 
 pub root_IsSquare : (rows : List (List ℕ)) (level : ℕ) (kids : List ℕ) → 1 ≤ level → AreNumbers rows (level - 1) kids → IsSquare level (square_of rows (level - 1) kids)
-root_IsSquare rows zero kids low are = absurd (omega (arith, low))
-root_IsSquare rows (suc k) kids low are =
-    let less : k ≡ suc k - 1 = omega arith in
-    subst (λ j. IsSquare (suc k) (square_of rows j kids)) less (four_IsSquare rows k kids (subst (λ j. AreNumbers rows j kids) (sym less) are))
+root_IsSquare rows level kids low are = subst (λ j. IsSquare j (square_of rows (level - 1) kids)) (sym (level_suc level low)) (four_IsSquare rows (level - 1) kids are)
 
 -- what a walk of the root completes
 pub root_listed : (level : ℕ) (s : Square) (all : List SquareRow) → 1 ≤ level → level ≤ 62 → IsSquare level s → completed level s ≡ all → IsListed level s all
@@ -289,11 +272,8 @@ pub blank_state : (rows : List (List ℕ)) (level n : ℕ) → level ≡ 0 → n
 blank_state q0 q1 q2 q3 q4 = grind (arith, square_in-cell, empty_square-zero)
 
 pub blank_row : (rows : List (List ℕ)) (level n o : ℕ) (kids : List ℕ) → 0 < level → kids ≡ kids_at rows n → kids ≡ o ∷ o ∷ o ∷ o ∷ [] → square_in rows (level - 1) o ≡ empty_square (level - 1) → square_in rows level n ≡ empty_square level
-blank_row rows zero n o kids low read same is = absurd (omega (arith, low))
-blank_row rows (suc k) n o kids low read same is =
-    let less : suc k - 1 ≡ k = omega arith in
-    let part : square_in rows k o ≡ empty_square k = subst (λ j. square_in rows j o ≡ empty_square j) less is in
-    square_in-quadrants rows k n ∙ ap (square_of rows k) (sym read ∙ same) ∙ (λ i. four (part i) (part i) (part i) (part i)) ∙ sym (empty_square-suc k)
+blank_row rows level n o kids low read same is =
+    rw (level_suc level low, square_in-quadrants, ← read, same, empty_square-suc) (λ i. four (is i) (is i) (is i) (is i))
 
 -- a square round whose middle one empty square stands
 padded_at : (rows : List (List ℕ)) (k : ℕ) (kids a b c d : List ℕ) → a ≡ kids_at rows (get_or kids 0 0) → b ≡ kids_at rows (get_or kids 1 0) → c ≡ kids_at rows (get_or kids 2 0) → d ≡ kids_at rows (get_or kids 3 0)

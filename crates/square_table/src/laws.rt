@@ -8,6 +8,7 @@ pub fn numbers_tell_squares()
 {}
 
 /// A square round the cell (0, 0), outside which no cell is live, is that of one world.
+#[tactic(auto, using(crate::proofs::Shared::Centring::one_world))]
 pub fn centred_tells_world()
     ensures { CentredTellsWorld }
 {}

@@ -31,5 +31,5 @@ one_number rows are (suc k) m n a b same =
     omega (arith, a.0, b.0, places)
 
 -- in one table numbers are equal exactly where levels and cells are
-pub numbers-tell : NumbersTellSquares
-numbers-tell t are s1 s2 h1 h2 = grind (arith, one_level, one_number)
+pub numbers_tell : NumbersTellSquares
+numbers_tell t are s1 s2 h1 h2 = grind (arith, one_level, one_number)

@@ -15,5 +15,6 @@ returns-else-last-eq0-clause-chained c =
 
 pub returns-else-last-eq0-clause-ok : goal.returns-else-last-eq0-clause-ok
 returns-else-last-eq0-clause-ok c =
-    let there : c.args.last - 1 < length c.push.new.self.items = omega (arith, c.requires.last.within, ap length c.in_ok-push.ensures.items, length_push c.args.rows.now.items (record { kids = c.args.kids; next = 0 }), c.if-last-eq0.false) in
+    let size = ap length c.in_ok-push.ensures.items ∙ length_push c.args.rows.now.items _ in
+    let there : c.args.last - 1 < length c.push.new.self.items = omega (arith, c.requires.last.within, size, c.if-last-eq0.false) in
     same_kids _ _ _ _ there c.index_mut.ensures.value ∙ ap (map kids_of) c.in_ok-push.ensures.items ∙ map-append kids_of c.args.rows.now.items _

@@ -1,4 +1,4 @@
-use Rattle.std.proofs.Common.{◌≡◌, ℕ, suc, ◌+◌, ◌≤◌, [], ◌∙◌, sym, add-one, subst, arith, lit<}
+use Rattle.std.proofs.Common.{rules, ◌≡◌, ℕ, suc, ◌+◌, ◌≤◌, [], sym, add-one, subst, arith}
 use Rattle.worlds.specs.Square.{empty_square}
 use Rattle.square_table.specs.Squares.{Table, IsNumber, square_in, Grows, GrowsBy}
 use Rattle.square_table.specs.Loading.{GrowsFrom}
@@ -6,11 +6,7 @@ use Rattle.square_table.proofs.Loading.{GrowsFrom-same, GrowsFrom-then, GrowsFro
 use Rattle.square_table.proofs.table.SquareTable.blank.Goals as goal
 
 pub loop-init : goal.loop-init
-loop-init c = record {
-  grows = GrowsFrom-same _ [] c.args.self.now;
-  number = IsNumber-state c.args.self.now.rows 0 (lit< tt);
-  cells = square_in-cell c.args.self.now.rows 0 ∙ sym empty_square-zero;
-}
+loop-init c = search (rules, GrowsFrom-same, IsNumber-state, square_in-cell, empty_square-zero)
 
 -- one join more, of which the levels stay below a bound
 more : (t u v : Table) (k b level : ℕ) → k + 2 ≤ level → IsNumber u.rows k b → square_in u.rows k b ≡ empty_square k → GrowsFrom (k + 1) [] t u → Grows u v → GrowsBy (four_of b) u v → GrowsFrom level [] t v

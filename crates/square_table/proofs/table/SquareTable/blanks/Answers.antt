@@ -1,6 +1,6 @@
-use Rattle.std.proofs.Common.{◌≡◌, ◌+◌, ◌∷◌, ◌++◌, ℕ, List, [], length, refl, ap, sym, ◌∙◌, subst, arith}
+use Rattle.std.proofs.Common.{rules, ◌≡◌, ◌+◌, ◌∷◌, ◌++◌, ℕ, List, [], length, refl, ap, sym, ◌∙◌, subst, arith}
 use Rattle.square_table.specs.Squares.{Table}
-use Rattle.square_table.specs.Loading.{AreBlanks, GrowsFrom}
+use Rattle.square_table.specs.Loading.{GrowsFrom}
 use Rattle.square_table.proofs.Loading.{GrowsFrom-same, GrowsFrom-then, GrowsFrom-higher, AreBlanks-first}
 use Rattle.square_table.proofs.table.SquareTable.blanks.Goals as goal
 
@@ -9,11 +9,7 @@ first : (xs ys : List ℕ) → xs ≡ ys ++ 0 ∷ [] → ys ≡ [] → xs ≡ (0
 first xs ys e none = e ∙ ap (λ (zs : List ℕ). zs ++ 0 ∷ []) none
 
 pub loop-init : goal.loop-init
-loop-init c = record {
-  grows = GrowsFrom-same _ [] c.args.self.now;
-  count = ap length (first c.push.new.numbers.items c.in_ok-blanks.blanks.items c.in_ok-push.ensures c.in_ok-blanks.ensures.items);
-  blanks = subst (AreBlanks c.args.self.now.rows) (sym (first c.push.new.numbers.items c.in_ok-blanks.blanks.items c.in_ok-push.ensures c.in_ok-blanks.ensures.items)) (AreBlanks-first c.args.self.now.rows);
-}
+loop-init c = search (rules, GrowsFrom-same, first, AreBlanks-first)
 
 -- one more
 more : (t u v : Table) (m n : ℕ) → n ≡ m + 1 → GrowsFrom m [] t u → GrowsFrom (m + 1) [] u v → GrowsFrom n [] t v

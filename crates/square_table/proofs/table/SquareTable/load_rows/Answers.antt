@@ -1,3 +1,4 @@
+use Rattle.std.proofs.Common.{rules}
 use Rattle.square_table.proofs.Loading.{GrowsFrom-then, AreBlanks-grows}
 use Rattle.square_table.proofs.table.SquareTable.load_rows.Goals as goal
 
@@ -9,9 +10,4 @@ loop-self-preserved c = record {
 }
 
 pub push_next-requires-clause-loading : goal.push_next-requires-clause-loading
-push_next-requires-clause-loading c = record {
-  valid = c.requires.squares.0;
-  levels = c.requires.squares.1;
-  blank = c.loop-self.invariant.blanks;
-  loaded = c.loop-self.invariant.loaded;
-}
+push_next-requires-clause-loading c = search (rules)
