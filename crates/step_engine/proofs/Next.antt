@@ -1,6 +1,6 @@
 -- The next generation, once the rule was asked at and around each live cell.
-use Rattle.std.proofs.Common.{◌≡◌, ℕ, ◌<◌, Bool, true, false, cond, List, [], ◌∷◌, map, refl, sym, ap, ◌∙◌, subst, arith, lit<, ℤ, pos, ◌+ℤ◌, inl, inr, None, Some, unwrap_or, get_or, take, take_all, length, ◌+◌, ◌≤◌, ◌++◌, append-nil}
-use Rattle.std.proofs.lemmas.Bool.{or_cases, or_left, or_right}
+use Rattle.std.proofs.Common.{◌≡◌, ℕ, ◌<◌, true, false, List, [], ◌∷◌, map, sym, ◌∙◌, subst, arith, lit<, ℤ, pos, ◌+ℤ◌, inl, inr, get_or, take, take_all, length, ◌+◌, ◌≤◌, ◌++◌, append-nil}
+use Rattle.std.proofs.lemmas.Bool.{or_cases, or_left, or_right, cases_Bool}
 use Rattle.std.proofs.lemmas.Int.{ints}
 use Rattle.std.proofs.lemmas.Grind.{flat_map-append}
 use Rattle.std.proofs.lemmas.List.{take_more, map-append}
@@ -47,92 +47,70 @@ asked_for cs = flat_map places_around (map place_of cs)
 
 -- one more of them
 pub asked_for-more : (cs : List CellSet) (i : ℕ) (d : CellSet) → i < length cs → asked_for (take (i + 1) cs) ≡ asked_for (take i cs) ++ places_around (place_of (get_or cs i d))
-asked_for-more cs i d h =
-    ap asked_for (take_more cs i d h)
-    ∙ ap (flat_map places_around) (map-append place_of (take i cs) (get_or cs i d ∷ []))
-    ∙ flat_map-append places_around (map place_of (take i cs)) (place_of (get_or cs i d) ∷ [])
-    ∙ ap (λ ps. asked_for (take i cs) ++ ps) (append-nil (places_around (place_of (get_or cs i d))))
+asked_for-more cs i d h = simp (take_more cs i d h, map-append, flat_map-append, append-nil)
 
 -- all of them
-pub asked_all : (next : List ℕ → ℕ) (w : World) (cs ds : List CellSet) (i : ℕ) (a : Asked) → length cs ≤ i → cs ≡ ds → lay ds blank ≡ w → HasAsked next w (asked_for (take i cs)) a → HasAsked next (lay ds blank) (asked_for ds) a
-asked_all next w cs ds i a all same is h =
-    subst (λ v. HasAsked next v (asked_for ds) a) (sym is) (subst (λ es. HasAsked next w (asked_for es) a) (take_all i cs all ∙ same) h)
+pub asked_all : {next : List ℕ → ℕ} {w : World} {cs ds : List CellSet} {a : Asked} (i : ℕ) → length cs ≤ i → cs ≡ ds → lay ds blank ≡ w → HasAsked next w (asked_for (take i cs)) a
+    → HasAsked next (lay ds blank) (asked_for ds) a
+asked_all {cs = cs} i all same is h = rw is (rw (take_all i cs all, same) at h)
 
 -- at another place nothing is live
 apart-now : (cs : List CellSet) (x y : ℤ) → list_any (same_place (y, x)) (asked_for cs) ≡ false → cell (lay cs blank) x y ≡ 0
 apart-now cs x y h =
-    elim (list_any (same_place (y, x)) (map place_of cs)) as (λ b. list_any (same_place (y, x)) (map place_of cs) ≡ b → cell (lay cs blank) x y ≡ 0) [
-      | true ↦ λ e. let near = around_listed (y, x) (y, x) (map place_of cs) e (around_itself (y, x)) in absurd (let no : true ≡ false = sym near ∙ h in cc)
-      | false ↦ λ e. cell-unmentioned cs x y e
-    ] refl
+    grind (
+      arith,
+      cases_Bool (list_any (same_place (y, x)) (map place_of cs)),
+      around_listed (y, x) (y, x) (map place_of cs),
+      around_itself (y, x),
+      cell-unmentioned cs x y,
+    )
 
 -- and nothing will be
 apart-later : (next : List ℕ → ℕ) → next nine_zeros ≡ 0 → (cs : List CellSet) (x y : ℤ) → list_any (same_place (y, x)) (asked_for cs) ≡ false → follows next (lay cs blank) x y ≡ 0
 apart-later next quiet cs x y h =
     let w = lay cs blank in
-    let f : ℤ → ℤ → ℕ = follows next w in
     let near : List Place = flat_map places_around (finite.keys w) in
-    elim (list_any (same_place (y, x)) near) as (λ b. list_any (same_place (y, x)) near ≡ b → f x y ≡ 0) [
-      | true ↦ λ e.
-          let listed = covers (y, x) (finite.keys w) (map place_of cs) (λ q k. live-mentioned cs q.1 q.0 (cell-live w q.1 q.0 k)) e in
-          absurd (let no : true ≡ false = sym listed ∙ h in cc)
-      | false ↦ λ e.
-          sym (cell-step next quiet w x y)
-          ∙ ap (λ v. cell v x y) (step-fill next w)
-          ∙ cell-fill near f blank x y
-          ∙ ap (λ b. cond b (f x y) (cell blank x y)) e
-          ∙ cell-blank x y
-    ] refl
+    let listed = covers (y, x) (finite.keys w) (map place_of cs) (λ q k. live-mentioned cs q.1 q.0 (cell-live w q.1 q.0 k)) in
+    grind (
+      arith,
+      cases_Bool (list_any (same_place (y, x)) near),
+      cell-step next quiet w x y,
+      step-fill next w,
+      cell-fill near (follows next w) blank x y,
+      cell-blank,
+    )
 
--- the cells that were found are those of the next generation
-pub next-laid : (next : List ℕ → ℕ) → next nine_zeros ≡ 0 → (cs : List CellSet) (a : Asked) → HasAsked next (lay cs blank) (asked_for cs) a → lay a.cells.items blank ≡ step next (lay cs blank)
-next-laid next quiet cs a h =
-    let w = lay cs blank in
-    let f : ℤ → ℤ → ℕ = follows next w in
-    h.laid
-    ∙ same_world (fill (asked_for cs) f blank) (step next w) (λ x y.
-    cell-fill (asked_for cs) f blank x y
-    ∙ ap (cond (list_any (same_place (y, x)) (asked_for cs)) (f x y)) (cell-blank x y)
-    ∙ elim (list_any (same_place (y, x)) (asked_for cs)) as (λ b. list_any (same_place (y, x)) (asked_for cs) ≡ b → cond b (f x y) 0 ≡ f x y) [
-      | true ↦ λ e. refl
-      | false ↦ λ e. sym (apart-later next quiet cs x y e)
-    ] refl
-    ∙ sym (cell-step next quiet w x y))
+module _ (next : List ℕ → ℕ) (quiet : next nine_zeros ≡ 0) (cs : List CellSet) (a : Asked) (h : HasAsked next (lay cs blank) (asked_for cs) a) where
+  -- the cells that were found are those of the next generation
+  pub next-laid : lay a.cells.items blank ≡ step next (lay cs blank)
+  next-laid =
+      let w = lay cs blank in
+      h.laid
+      ∙ same_world (fill (asked_for cs) (follows next w) blank) (step next w) (λ x y.
+      grind (
+        arith,
+        cell-fill (asked_for cs) (follows next w) blank x y,
+        cell-blank,
+        cases_Bool (list_any (same_place (y, x)) (asked_for cs)),
+        apart-later next quiet cs x y,
+        cell-step next quiet w x y,
+      ))
 
-either : (b : Bool) (s : ℕ) → unwrap_or (cond b (Some s) None) 0 ≡ cond b s 0
-either true s = refl
-either false s = refl
+  -- they and the answers are a generation
+  pub next-together : AreTogether a.cells.items a.patch
+  next-together = record {
+    listed = λ k d at. let c = h.listed k d at in record { live = rw (next-laid, cell-step next quiet (lay cs blank)) c.live; state = c.state; held = c.held };
+    shown = λ x y. grind (arith, h.says x y, cell-fill (asked_for cs) (follows next (lay cs blank)) blank x y, cell-blank);
+  }
 
--- they and the answers are a generation
-pub next-together : (next : List ℕ → ℕ) → next nine_zeros ≡ 0 → (cs : List CellSet) (a : Asked) → HasAsked next (lay cs blank) (asked_for cs) a → AreTogether a.cells.items a.patch
-next-together next quiet cs a h =
-    let w = lay cs blank in
-    let f : ℤ → ℤ → ℕ = follows next w in
-    record {
-      listed = λ k d at.
-          let c = h.listed k d at in
-          let at_x : ℤ = (get_or a.cells.items k d).x in
-          let at_y : ℤ = (get_or a.cells.items k d).y in
-          record {
-            live = subst (λ s. 0 < s) (sym (cell-step next quiet w at_x at_y) ∙ sym (ap (λ v. cell v at_x at_y) (next-laid next quiet cs a h))) c.live;
-            state = c.state;
-            held = c.held;
-          };
-      shown = λ x y.
-          ap (λ o. unwrap_or o 0) (h.says x y)
-          ∙ either (list_any (same_place (y, x)) (asked_for cs)) (f x y)
-          ∙ sym (ap (cond (list_any (same_place (y, x)) (asked_for cs)) (f x y)) (cell-blank x y))
-          ∙ sym (cell-fill (asked_for cs) f blank x y)
-          ∙ sym (ap (λ v. cell v x y) h.laid);
-    }
-
--- where each answer is the state that the cell had, the world is still
-pub next-still : (next : List ℕ → ℕ) → next nine_zeros ≡ 0 → (cs : List CellSet) (a : Asked) → HasAsked next (lay cs blank) (asked_for cs) a → a.is_still ≡ true → step next (lay cs blank) ≡ lay cs blank
-next-still next quiet cs a h still =
-    let w = lay cs blank in
-    same_world (step next w) w (λ x y.
-    cell-step next quiet w x y
-    ∙ elim (list_any (same_place (y, x)) (asked_for cs)) as (λ b. list_any (same_place (y, x)) (asked_for cs) ≡ b → follows next w x y ≡ cell w x y) [
-      | true ↦ λ e. h.still still x y e
-      | false ↦ λ e. apart-later next quiet cs x y e ∙ sym (apart-now cs x y e)
-    ] refl)
+  -- where each answer is the state that the cell had, the world is still
+  pub next-still : a.is_still ≡ true → step next (lay cs blank) ≡ lay cs blank
+  next-still still = same_world (step next (lay cs blank)) (lay cs blank) (λ x y.
+      grind (
+        arith,
+        cell-step next quiet (lay cs blank) x y,
+        cases_Bool (list_any (same_place (y, x)) (asked_for cs)),
+        h.still still x y,
+        apart-later next quiet cs x y,
+        apart-now cs x y,
+      ))

@@ -23,34 +23,7 @@ spots =
     ∷ []
 
 near_spots : AllByRecursion (λ (s : Spot). IsNear 1 s.x s.y) spots
-near_spots = (
-  record { left = omega (arith, ints); right = omega (arith, ints); top = omega (arith, ints); bottom = omega (arith, ints) },
-  (
-    record { left = omega (arith, ints); right = omega (arith, ints); top = omega (arith, ints); bottom = omega (arith, ints) },
-    (
-      record { left = omega (arith, ints); right = omega (arith, ints); top = omega (arith, ints); bottom = omega (arith, ints) },
-      (
-        record { left = omega (arith, ints); right = omega (arith, ints); top = omega (arith, ints); bottom = omega (arith, ints) },
-        (
-          record { left = omega (arith, ints); right = omega (arith, ints); top = omega (arith, ints); bottom = omega (arith, ints) },
-          (
-            record { left = omega (arith, ints); right = omega (arith, ints); top = omega (arith, ints); bottom = omega (arith, ints) },
-            (
-              record { left = omega (arith, ints); right = omega (arith, ints); top = omega (arith, ints); bottom = omega (arith, ints) },
-              (
-                record { left = omega (arith, ints); right = omega (arith, ints); top = omega (arith, ints); bottom = omega (arith, ints) },
-                (
-                  record { left = omega (arith, ints); right = omega (arith, ints); top = omega (arith, ints); bottom = omega (arith, ints) },
-                  tt,
-                ),
-              ),
-            ),
-          ),
-        ),
-      ),
-    ),
-  ),
-)
+near_spots = grind (arith, ints)
 
 pub near_at : (i : ℕ) (d : Spot) → i < 9 → IsNear 1 (get_or spots i d).x (get_or spots i d).y
 near_at i d h = All-get_or (λ (s : Spot). IsNear 1 s.x s.y) spots i d h (All-from_recursion (λ (s : Spot). IsNear 1 s.x s.y) spots near_spots)

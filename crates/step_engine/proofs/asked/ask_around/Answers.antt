@@ -1,4 +1,4 @@
-use Rattle.std.proofs.Common.{◌≡◌, ◌<◌, ◌≤◌, sym, ap, subst, arith, get_or, take, pos}
+use Rattle.std.proofs.Common.{◌≡◌, ◌<◌, ◌≤◌, sym, ap, subst, arith, get_or, take, pos, [], ◌∷◌}
 use Rattle.std.proofs.lemmas.Int.{ints}
 use Rattle.std.proofs.lemmas.List.{take_more, take_all}
 use Rattle.worlds.specs.World.{Place}
@@ -38,9 +38,9 @@ loop-offset-preserved g c =
     let q : Place = get_or (places_around p) i p in
     let column : q.1 ≡ _ = ap (λ (r : Place). r.1) here in
     let row : q.0 ≡ _ = ap (λ (r : Place). r.0) here in
-    subst (λ qs. AsksMore next w qs c.args.asked.now c.ask_at.new.asked) (sym (take_more (places_around p) i p below))
+    rw (take_more (places_around p) i p below)
     (AsksMore-then next w (take i (places_around p)) _ c.args.asked.now c.loop-offset.asked c.ask_at.new.asked c.loop-offset.invariant
-    (AsksMore-at next w c.loop-offset.asked c.ask_at.new.asked _ _ q (omega (arith, ints)) (omega (arith, ints)) c.in_ok-ask_at.ensures))
+    (AsksMore-at (λ r. r ∷ []) _ _ q (omega (arith, ints)) (omega (arith, ints)) c.in_ok-ask_at.ensures))
 
 pub returns : goal.returns
 returns g c =

@@ -1,25 +1,19 @@
-use Rattle.std.proofs.Common.{◌+◌, refl, arith}
+use Rattle.std.proofs.Common.{refl, arith}
 use Rattle.std.proofs.lemmas.Result.{IfOk-weaker}
 use Rattle.step_engine.proofs.Spent.{low_enough, AddsStart-loaded, AddsStart-widened, IsRooted-widened}
 use Rattle.step_engine.proofs.padding.rooted.Goals as goal
 
 pub start-requires-clause-level : goal.start-requires-clause-level
-start-requires-clause-level c = λ j is. low_enough c.args.generations c.room_level-level.result j (c.room_level-level.result + 2) c.args.plane.now c.room_level-level.ensures is refl
+start-requires-clause-level c = low_enough c.room_level-level.ensures refl
 
 pub with_room-requires-clause-level : goal.with_room-requires-clause-level
 with_room-requires-clause-level c = let few = c.room_level-level.ensures.few in (c.in_ok-start.ensures.square.low, c.in_ok-start.ensures.level, omega (arith, few))
 
 pub returns-in_err-start-clause-adds : goal.returns-in_err-start-clause-adds
-returns-in_err-start-clause-adds c = AddsStart-loaded c.args.plane.now c.args.generations c.room_level-level.result c.args.table.now c.start.new.table c.room_level-level.ensures c.start.ensures.grows
+returns-in_err-start-clause-adds c = AddsStart-loaded c.room_level-level.ensures c.start.ensures.grows
 
 pub returns-clause-root : goal.returns-clause-root
-returns-clause-root c =
-    IfOk-weaker c.with_room.result _ _
-    (λ root is. IsRooted-widened c.args.plane.now c.args.generations c.room_level-level.result (c.room_level-level.result + 2) c.start.new.table
-    c.with_room.new.table _ root refl c.room_level-level.ensures c.in_ok-start.ensures.square.centred is)
-    c.with_room.ensures.widened
+returns-clause-root c = IfOk-weaker c.with_room.result _ _ (λ root is. IsRooted-widened c.room_level-level.ensures refl c.in_ok-start.ensures.square.centred is) c.with_room.ensures.widened
 
 pub returns-clause-adds : goal.returns-clause-adds
-returns-clause-adds c =
-    AddsStart-widened c.args.plane.now c.args.generations c.room_level-level.result (c.room_level-level.result + 2) c.args.table.now c.start.new.table c.with_room.new.table _ refl c.room_level-level.ensures
-    c.in_ok-start.ensures.grows c.in_ok-start.ensures.square.centred c.with_room.ensures.adds
+returns-clause-adds c = AddsStart-widened c.room_level-level.ensures refl c.in_ok-start.ensures.grows c.in_ok-start.ensures.square.centred c.with_room.ensures.adds

@@ -4,6 +4,6 @@ use Rattle.step_engine.proofs.reach.lies_within.Goals as goal
 
 pub returns : goal.returns
 returns c = (
-  λ _. record { left = omega (arith, ints); right = omega (arith, ints); top = omega (arith, ints); bottom = omega (arith, ints) },
+  λ _. omega (arith, ints),
   λ _. refl,
 )
