@@ -4,11 +4,12 @@ use Rattle.std.specs.Prelude.{All, MatchResult, fold, if◌then◌else◌}
 use Rattle.std.specs.List.{slice_index_or}
 use Rattle.std.specs.Str.{bytes_eq}
 use Rattle.std.specs.Str.Parse.{IsNumeral, digits_value, without_leading_plus}
+use Rattle.std.proofs.lemmas.Bool.{cases_Bool}
 use Rattle.std.proofs.lemmas.List.Elements.{All-tail}
 use Rattle.std.proofs.lemmas.Slice.Eq.{bytes_eq-Decides}
 use Rattle.clap.proofs.OnLiterals.{clap_on_literals}
 use Rattle.clap.specs.Faults.{default_fault, defaults_fault, walk_fault}
-use Rattle.clap.specs.Kinds.{FailsBy, HasKind, or_else}
+use Rattle.clap.specs.Kinds.{FailsBy, HasKind}
 use Rattle.clap.specs.Values.{kind_of}
 use Rattle.clap.specs.Simple.{filled, help_rule, matches_of, with_index}
 use Rattle.clap.specs.Walk.{Row, Rule, Text, Walk, finished, has_row, more_values, one_of, reading_by, row_text, settled_rows, walked, with_default}
@@ -27,17 +28,13 @@ use Rattle.desk_words.proofs.Walked.{Pending, Stands, between, choice_leads, no_
 
 -- two names are one, or differ
 same_or_not : (a b : Text) → (a ≡ b) ⊎ (bytes_eq a b ≡ false)
-same_or_not a b = go (bytes_eq a b) refl
-  where
-    go : (t : Bool) → bytes_eq a b ≡ t → (a ≡ b) ⊎ (bytes_eq a b ≡ false)
-    go true is = inl ((bytes_eq-Decides a b).0 is)
-    go false is = inr is
+same_or_not a b = grind (arith, cases_Bool (bytes_eq a b), bytes_eq-Decides a b)
 
 name_same : (a : Text) → bytes_eq a a ≡ true
 name_same a = (bytes_eq-Decides a a).1 refl
 
 names_other : (a b : Text) → a ≢ b → bytes_eq a b ≡ false
-names_other a b other = elim (same_or_not a b) [ inl same ↦ absurd (other same) | inr apart ↦ apart ]
+names_other a b other = grind (arith, same_or_not a b)
 
 -- none of the choices has a row yet
 abbrev AreFresh : List Row → List Choice → Type 0
@@ -102,40 +99,37 @@ rule_in flag = progress_in
 -- each default passes, whichever options were used
 default_passes : (o : Named) (rows : List Row) → default_fault rows (rule_in o) ≡ []
 unfolding clap_on_literals
-default_passes o rows = go o (has_row (id_of o) rows) refl
-  where
-    go : (t : Named) (b : Bool) → has_row (id_of t) rows ≡ b → default_fault rows (rule_in t) ≡ []
-    go (number s) true is = rw is refl
-    go flag true is = rw is refl
-    go (number Workers) false is = rw is refl
-    go (number Facts) false is = rw is refl
-    go (number Squares) false is = rw is refl
-    go flag false is = rw is refl
+default_passes o rows = grind (arith, cases_Bool (has_row (id_of o) rows))
 
 help_passes : (rows : List Row) → default_fault rows help_in ≡ []
 unfolding help_in
-help_passes rows = go (has_row (codes "help") rows) refl
-  where
-    go : (b : Bool) → has_row (codes "help") rows ≡ b → default_fault rows help_in ≡ []
-    go true is = rw is refl
-    go false is = rw is refl
+help_passes rows = grind (arith, cases_Bool (has_row (codes "help") rows))
+
+-- the rows behind the defaults of the first settings
+abbrev one_on : List Row → List Row
+one_on rows = with_default rows (rule_for Workers)
+
+abbrev two_on : List Row → List Row
+two_on rows = with_default (one_on rows) (rule_for Facts)
+
+abbrev three_on : List Row → List Row
+three_on rows = with_default (two_on rows) (rule_for Squares)
+
+abbrev four_on : List Row → List Row
+four_on rows = with_default (three_on rows) progress_in
 
 default_step : (rows : List Row) (rule : Rule) (more : List Rule) → default_fault rows rule ≡ [] → defaults_fault rows (rule ∷ more) ≡ defaults_fault (with_default rows rule) more
 unfolding defaults_fault
-default_step rows rule more passes = ap (λ k. or_else k (defaults_fault (with_default rows rule) more)) passes
+default_step rows rule more passes = rw passes refl
 
 defaults_pass : (rows : List Row) → defaults_fault rows rules ≡ []
 unfolding defaults_fault help_in
 defaults_pass rows =
-    let one = with_default rows (rule_for Workers) in
-    let two = with_default one (rule_for Facts) in
-    let three = with_default two (rule_for Squares) in
-    let four = with_default three progress_in in
     default_step rows (rule_for Workers) (rule_for Facts ∷ rule_for Squares ∷ progress_in ∷ help_in ∷ []) (default_passes (number Workers) rows)
-    ∙ default_step one (rule_for Facts) (rule_for Squares ∷ progress_in ∷ help_in ∷ []) (default_passes (number Facts) one)
-    ∙ default_step two (rule_for Squares) (progress_in ∷ help_in ∷ []) (default_passes (number Squares) two)
-    ∙ default_step three progress_in (help_in ∷ []) (default_passes flag three)
-    ∙ default_step four help_in [] (help_passes four)
+    ∙ default_step (one_on rows) (rule_for Facts) (rule_for Squares ∷ progress_in ∷ help_in ∷ []) (default_passes (number Facts) (one_on rows))
+    ∙ default_step (two_on rows) (rule_for Squares) (progress_in ∷ help_in ∷ []) (default_passes (number Squares) (two_on rows))
+    ∙ default_step (three_on rows) progress_in (help_in ∷ []) (default_passes flag (three_on rows))
+    ∙ default_step (four_on rows) help_in [] (help_passes (four_on rows))
 
 -- so nothing is refused
 ends_pass : (words : List Text) (rows : List Row) → Ends words rows [] None → faults words ≡ []
@@ -163,42 +157,25 @@ default_is (number s) rows fresh = rw fresh (put_behind (name_of s) (more_values
 default_is flag rows fresh = rw fresh (put_behind progress_name (more_values DefaultValue (codes "false" ∷ [])) (default_row flag ∷ []) rows fresh)
 
 default_kept : (o : Named) (rows : List Row) → has_row (id_of o) rows ≡ true → with_default rows (rule_in o) ≡ rows
-default_kept (number s) rows has = rw has refl
-default_kept flag rows has = rw has refl
+default_kept o rows has = grind arith
 
 default_other : (s t : Named) → bytes_eq (id_of s) (id_of t) ≡ false → (rows : List Row)
     → (has_row (id_of t) (with_default rows (rule_in s)) ≡ has_row (id_of t) rows)
     × (one_of (id_of t) (with_default rows (rule_in s)) ≡ one_of (id_of t) rows)
 unfolding default_row
-default_other s t other rows = go (has_row (id_of s) rows) refl
-  where
-    go : (b : Bool) → has_row (id_of s) rows ≡ b → (has_row (id_of t) (with_default rows (rule_in s)) ≡ has_row (id_of t) rows) × (one_of (id_of t) (with_default rows (rule_in s)) ≡ one_of (id_of t) rows)
-    go true is = (ap (has_row (id_of t)) (default_kept s rows is), ap (one_of (id_of t)) (default_kept s rows is))
-    go false is = (
-      ap (has_row (id_of t)) (default_is s rows is) ∙ has_other (id_of t) rows (default_row s) other,
-      ap (one_of (id_of t)) (default_is s rows is) ∙ text_other (id_of t) rows (default_row s) other,
-    )
+default_other s t other rows = grind (arith, cases_Bool (has_row (id_of s) rows), default_kept s rows, default_is s rows, has_other (id_of t) rows (default_row s), text_other (id_of t) rows (default_row s))
 
 default_text : (o : Named) → row_text (default_row o) ≡ Some (usual_for o)
 unfolding default_row
-default_text (number s) = refl
-default_text flag = refl
+default_text o = grind arith
 
 default_this : (o : Named) (rows : List Row) → one_of (id_of o) (with_default rows (rule_in o)) ≡ told o rows
 unfolding told default_row
-default_this o rows = go (has_row (id_of o) rows) refl
-  where
-    go : (b : Bool) → has_row (id_of o) rows ≡ b → one_of (id_of o) (with_default rows (rule_in o)) ≡ told o rows
-    go true is = ap (one_of (id_of o)) (default_kept o rows is) ∙ rw is refl
-    go false is = ap (one_of (id_of o)) (default_is o rows is) ∙ text_this (id_of o) rows (default_row o) is (name_same (id_of o)) ∙ default_text o ∙ rw is refl
+default_this o rows = grind (arith, cases_Bool (has_row (id_of o) rows), default_kept o rows, default_is o rows, text_this (id_of o) rows (default_row o), name_same (id_of o), default_text o)
 
 help_default : (rows : List Row) → with_default rows help_in ≡ rows
 unfolding help_in
-help_default rows = go (has_row (codes "help") rows) refl
-  where
-    go : (b : Bool) → has_row (codes "help") rows ≡ b → with_default rows help_in ≡ rows
-    go true is = rw is refl
-    go false is = rw is refl
+help_default rows = grind (arith, cases_Bool (has_row (codes "help") rows))
 
 told_other : (s t : Named) → bytes_eq (id_of s) (id_of t) ≡ false → (rows : List Row) → told t (with_default rows (rule_in s)) ≡ told t rows
 told_other s t other rows = let both = default_other s t other rows in told_as t (with_default rows (rule_in s)) rows both.0 both.1
@@ -206,40 +183,27 @@ told_other s t other rows = let both = default_other s t other rows in told_as t
 -- what is read of the rows in the end
 told_end : (t : Named) (rows : List Row) → one_of (id_of t) (fold with_default rows rules) ≡ told t rows
 unfolding help_in
-told_end t rows =
-    let one = with_default rows (rule_for Workers) in
-    let two = with_default one (rule_for Facts) in
-    let three = with_default two (rule_for Squares) in
-    ap (one_of (id_of t)) (help_default (with_default three progress_in)) ∙ go t
+told_end t rows = ap (one_of (id_of t)) (help_default (four_on rows)) ∙ go t
   where
-    go : (t : Named) → one_of (id_of t) (with_default (with_default (with_default (with_default rows (rule_for Workers)) (rule_for Facts)) (rule_for Squares)) progress_in) ≡ told t rows
+    go : (t : Named) → one_of (id_of t) (four_on rows) ≡ told t rows
     go (number Workers) =
-        let one = with_default rows (rule_for Workers) in
-        let two = with_default one (rule_for Facts) in
-        (default_other flag (number Workers) refl (with_default two (rule_for Squares))).1 ∙ (default_other (number Squares) (number Workers) refl two).1
-        ∙ (default_other (number Facts) (number Workers) refl one).1 ∙ default_this (number Workers) rows
+        (default_other flag (number Workers) refl (three_on rows)).1 ∙ (default_other (number Squares) (number Workers) refl (two_on rows)).1
+        ∙ (default_other (number Facts) (number Workers) refl (one_on rows)).1 ∙ default_this (number Workers) rows
     go (number Facts) =
-        let one = with_default rows (rule_for Workers) in
-        let two = with_default one (rule_for Facts) in
-        (default_other flag (number Facts) refl (with_default two (rule_for Squares))).1 ∙ (default_other (number Squares) (number Facts) refl two).1
-        ∙ default_this (number Facts) one ∙ told_other (number Workers) (number Facts) refl rows
+        (default_other flag (number Facts) refl (three_on rows)).1 ∙ (default_other (number Squares) (number Facts) refl (two_on rows)).1
+        ∙ default_this (number Facts) (one_on rows) ∙ told_other (number Workers) (number Facts) refl rows
     go (number Squares) =
-        let one = with_default rows (rule_for Workers) in
-        let two = with_default one (rule_for Facts) in
-        (default_other flag (number Squares) refl (with_default two (rule_for Squares))).1 ∙ default_this (number Squares) two
-        ∙ told_other (number Facts) (number Squares) refl one ∙ told_other (number Workers) (number Squares) refl rows
+        (default_other flag (number Squares) refl (three_on rows)).1 ∙ default_this (number Squares) (two_on rows)
+        ∙ told_other (number Facts) (number Squares) refl (one_on rows) ∙ told_other (number Workers) (number Squares) refl rows
     go flag =
-        let one = with_default rows (rule_for Workers) in
-        let two = with_default one (rule_for Facts) in
-        default_this flag (with_default two (rule_for Squares)) ∙ told_other (number Squares) flag refl two
-        ∙ told_other (number Facts) flag refl one ∙ told_other (number Workers) flag refl rows
+        default_this flag (three_on rows) ∙ told_other (number Squares) flag refl (two_on rows) ∙ told_other (number Facts) flag refl (one_on rows)
+        ∙ told_other (number Workers) flag refl rows
 
 push_other : (choice : Choice) (t : Named) (rows : List Row) → bytes_eq (option_of choice) (id_of t) ≡ false → told t (rows ++ row_for choice ∷ []) ≡ told t rows
 push_other choice t rows other = told_as t (rows ++ row_for choice ∷ []) rows (has_other (id_of t) rows (row_for choice) other) (text_other (id_of t) rows (row_for choice) other)
 
 choice_text : (choice : Choice) → row_text (row_for choice) ≡ Some (text_for choice)
-choice_text (numbered s digits apart) = refl
-choice_text progress = refl
+choice_text choice = grind arith
 
 push_this : (choice : Choice) (t : Named) (rows : List Row) → option_of choice ≡ id_of t → has_row (option_of choice) rows ≡ false → told t (rows ++ row_for choice ∷ []) ≡ Some (text_for choice)
 unfolding told
@@ -287,50 +251,31 @@ number_in Squares options = options.squares
 
 number_with : (s t : Setting) (n : ℕ) (options : Options) → number_in t (with_number s n options) ≡ (if bytes_eq (name_of s) (name_of t) then n else number_in t options)
 unfolding number_in
-number_with Workers Workers n options = refl
-number_with Workers Facts n options = refl
-number_with Workers Squares n options = refl
-number_with Facts Workers n options = refl
-number_with Facts Facts n options = refl
-number_with Facts Squares n options = refl
-number_with Squares Workers n options = refl
-number_with Squares Facts n options = refl
-number_with Squares Squares n options = refl
+number_with s t n options = grind arith
 
 number_kept : (t : Setting) (options : Options) → number_in t (with_choice progress options) ≡ number_in t options
 unfolding number_in
-number_kept Workers options = refl
-number_kept Facts options = refl
-number_kept Squares options = refl
+number_kept t options = grind arith
 
 progress_kept : (s : Setting) (n : ℕ) (options : Options) → (with_number s n options).progress ≡ options.progress
-progress_kept Workers n options = refl
-progress_kept Facts n options = refl
-progress_kept Squares n options = refl
+progress_kept s n options = grind arith
 
 abbrev value_of : Text → ℕ
 value_of text = digits_value 10 (without_leading_plus text)
 
 value_next : (t : Setting) (digits : Text) (choices : List Choice) → IsNumeral 10 digits → value_of (text_by (number t) choices) ≡ number_in t (chosen_by choices)
     → (b : Bool) → value_of (if b then digits else text_by (number t) choices) ≡ (if b then digits_value 10 digits else number_in t (chosen_by choices))
-value_next t digits choices order rest true = ap (digits_value 10) (no_plus digits order)
-value_next t digits choices order rest false = rest
+value_next t digits choices order rest b = grind (arith, no_plus)
 
 no_flag : (t : Setting) → bytes_eq progress_name (name_of t) ≡ false
-no_flag Workers = refl
-no_flag Facts = refl
-no_flag Squares = refl
+no_flag t = grind arith
 
 flag_no : (s : Setting) → bytes_eq (name_of s) progress_name ≡ false
-flag_no Workers = refl
-flag_no Facts = refl
-flag_no Squares = refl
+flag_no s = grind arith
 
 value_by : (t : Setting) (choices : List Choice) → All IsInOrder choices → value_of (text_by (number t) choices) ≡ number_in t (chosen_by choices)
 unfolding text_by number_in
-value_by Workers [] orders = refl
-value_by Facts [] orders = refl
-value_by Squares [] orders = refl
+value_by t [] orders = grind arith
 value_by t (numbered s digits apart ∷ choices) orders =
     value_next t digits choices (orders 0 (numbered s digits apart) (omega arith)).0 (value_by t choices (All-tail IsInOrder (numbered s digits apart) choices orders)) (bytes_eq (name_of s) (name_of t))
     ∙ sym (number_with s t (digits_value 10 digits) (chosen_by choices))
@@ -362,27 +307,24 @@ text_asked t words choices asks =
     let rows = rows_by choices [] in
     ap (one_of (id_of t)) (rows_end words rows (asked_end words choices asks)) ∙ told_end t rows ∙ told_by t choices [] asks.once (λ k d low. refl) refl
 
+some_is : (a b : Text) → Some a ≡ Some b → a ≡ b
+some_is a b e = cc
+
 chooses_value : (t : Setting) (words : List Text) (choices : List Choice) (n : ℕ) → AsksWith choices words → ChoosesFor t words n → n ≡ number_in t (chosen_by choices)
 chooses_value t words choices n asks chosen =
     let text : chosen.0 ≡ text_by (number t) choices = some_is chosen.0 (text_by (number t) choices) (sym chosen.1 ∙ text_asked (number t) words choices asks) in
     chosen.2.0 ∙ ap value_of text ∙ value_by t choices asks.numbers
-  where
-    some_is : (a b : Text) → Some a ≡ Some b → a ≡ b
-    some_is a b e = cc e
 
 says_flag : (text : Option Text) (b : Bool) → Says text b → (c : Bool) → text ≡ Some (told_flag c) → b ≡ c
 unfolding told_flag
-says_flag text b says true is = says.yes is
-says_flag text b says false is = says.no is
+says_flag text b says c is = grind arith
 
 chooses_progress : (words : List Text) (choices : List Choice) (b : Bool) → AsksWith choices words → Says (progress_text words) b → b ≡ (chosen_by choices).progress
 chooses_progress words choices b asks says =
     says_flag (progress_text words) b says (chosen_by choices).progress (text_asked flag words choices asks ∙ ap (λ (t : Text). Some t) (flag_by choices))
 
 same_options : (o p : Options) → o.workers ≡ p.workers → o.facts ≡ p.facts → o.squares ≡ p.squares → o.progress ≡ p.progress → o ≡ p
-same_options o p workers facts squares shown =
-    let make : ℕ → ℕ → ℕ → Bool → Options = λ w f s b. record { workers = w; facts = f; squares = s; progress = b } in
-    ap₂ (λ w f. make w f o.squares o.progress) workers facts ∙ ap₂ (make p.workers p.facts) squares shown
+same_options o p workers facts squares shown = λ i. record { workers = workers i; facts = facts i; squares = squares i; progress = shown i }
 
 -- what choices choose is read, and an error is 'out of memory'
 pub asked_reads : (words : List Text) (r : Result Options Error) → FailsBy (faults words) r → IfOk r (Chooses words) → (choices : List Choice) → AsksWith choices words

@@ -1,5 +1,5 @@
 -- Whatever the command parses, each setting has a number.
-use Rattle.std.proofs.Common.{◌≡◌, ◌∙◌, ◌<◌, ◌≤◌, ◌++◌, ◌∷◌, ◌||◌, ap, ap₂, codes, ℕ, zero, suc, true, false, List, [], length, Some, None, refl, sym, subst, inl, inr, arith, slice_index}
+use Rattle.std.proofs.Common.{◌≡◌, ◌∙◌, ◌<◌, ◌≤◌, ◌++◌, ◌∷◌, ◌||◌, ap, ap₂, codes, ℕ, zero, suc, true, false, List, [], length, Some, None, sym, subst, inl, inr, arith, slice_index}
 use Rattle.std.specs.List.{All, slice_index_or}
 use Rattle.std.specs.Str.{bytes_eq}
 use Rattle.std.proofs.lemmas.List.Elements.{All-nil}
@@ -59,35 +59,21 @@ place Facts = 1
 place Squares = 2
 
 place_low : (s : Setting) → place s < 4
-place_low Workers = omega arith
-place_low Facts = omega arith
-place_low Squares = omega arith
+place_low s = grind arith
 
 arg_at : (xs : List Arg) → HasSettings xs → (s : Setting) (d : Arg) → IsArgOf s (slice_index_or xs (place s) d)
-arg_at xs has Workers d = subst (λ l. IsArgOf Workers (slice_index_or l 0 d)) (sym has.list) has.workers_is
-arg_at xs has Facts d = subst (λ l. IsArgOf Facts (slice_index_or l 1 d)) (sym has.list) has.facts_is
-arg_at xs has Squares d = subst (λ l. IsArgOf Squares (slice_index_or l 2 d)) (sym has.list) has.squares_is
+arg_at xs has s d = grind arith
 
 -- whose name it is
 names_differ : (s t : Setting) → bytes_eq (name_of t) (name_of s) ≡ true → place t ≡ place s
-names_differ Workers Workers e = refl
-names_differ Workers Facts e = absurd (cc e)
-names_differ Workers Squares e = absurd (cc e)
-names_differ Facts Workers e = absurd (cc e)
-names_differ Facts Facts e = refl
-names_differ Facts Squares e = absurd (cc e)
-names_differ Squares Workers e = absurd (cc e)
-names_differ Squares Facts e = absurd (cc e)
-names_differ Squares Squares e = refl
+names_differ s t e = grind arith
 
 named_at : (xs : List Arg) → HasSettings xs → (s t : Setting) (e : Arg) → bytes_eq (slice_index_or xs (place t) e).id.now (name_of s) ≡ true → place t ≡ place s
-named_at xs has s t e same = names_differ s t (subst (λ n. bytes_eq n (name_of s) ≡ true) (arg_at xs has t e).id same)
+named_at xs has s t e same = grind (arith, names_differ s t, arg_at xs has t e)
 
 -- which isn't that for progress
 progress_differs : (s : Setting) → bytes_eq progress_name (name_of s) ≡ true → ⊥
-progress_differs Workers e = cc e
-progress_differs Facts e = cc e
-progress_differs Squares e = cc e
+progress_differs s e = grind arith
 
 progress_at : (xs : List Arg) → HasSettings xs → (s : Setting) (e : Arg) → bytes_eq (slice_index_or xs 3 e).id.now (name_of s) ≡ true → ⊥
 progress_at xs has s e same =
@@ -104,14 +90,10 @@ only_at xs has s (suc (suc (suc (suc j)))) e low same =
     absurd (omega (arith, few))
 
 not_empty : (s : Setting) → name_of s ≡ [] → ⊥
-not_empty Workers e = cc e
-not_empty Facts e = cc e
-not_empty Squares e = cc e
+not_empty s e = grind arith
 
 head_is : (s : Setting) → (slice_index (name_of s) 0 ≡ 104 → ⊥) × (slice_index (name_of s) 0 ≡ 118 → ⊥)
-head_is Workers = (λ e. omega (arith, e), λ e. omega (arith, e))
-head_is Facts = (λ e. omega (arith, e), λ e. omega (arith, e))
-head_is Squares = (λ e. omega (arith, e), λ e. omega (arith, e))
+head_is s = grind arith
 
 own : (s : Setting) (x : Arg) → x.id.now ≡ name_of s → IsAuto x → ⊥
 own s x id (inl h) = (head_is s).0 (ap (λ n. slice_index n 0) (sym id ∙ h))

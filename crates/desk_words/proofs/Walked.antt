@@ -1,11 +1,10 @@
 -- The walk of a parse over the words of choices.
 use Rattle.std.proofs.Common.{◌≡◌, ◌∙◌, ◌==◌, ◌++◌, ◌∷◌, ◌<◌, ◌≤◌, ◌^◌, ap, ℕ, Bool, true, false, List, [], Option, Some, None, refl, arith, codes}
 use Rattle.std.specs.Prelude.{fold, if◌then◌else◌}
-use Rattle.std.proofs.Common.{cond, drop}
+use Rattle.std.proofs.Common.{append-nil, cond, drop}
 use Rattle.std.proofs.lemmas.Bool.{ne_eqb}
 use Rattle.std.specs.Str.Parse.{IsNumeral, digits_value, without_leading_plus}
 use Rattle.std.proofs.lemmas.Str.Parse.{digit_from_value}
-use Rattle.clap.specs.Lexer.{strip_byte}
 use Rattle.clap.specs.Values.{refused_kind}
 use Rattle.clap.proofs.ValueTestLemmas.{Accepts-accepts}
 use Rattle.clap.specs.declared.parser.matches.ValueSource.TheVariants.{CommandLine}
@@ -17,11 +16,10 @@ use Rattle.clap.specs.Walk.Waiting.{idle, option}
 use Rattle.clap.specs.declared.builder.value_parser.ValueParser.TheVariants.{Unsigned}
 use Rattle.clap.proofs.OnLiterals.{clap_on_literals}
 use Rattle.desk_words.specs.declared.settings.Setting.{Setting}
-use Rattle.desk_words.specs.declared.settings.Setting.TheVariants.{Workers, Facts, Squares}
 use Rattle.desk_words.specs.Command.{desk, least_of, most_of, name_of, progress_name, progress_rule, setting_rule}
 use Rattle.desk_words.specs.Words.{Choice, IsInOrder, option_of, words_of}
 use Rattle.desk_words.specs.Words.Choice.{numbered, progress}
-use Rattle.desk_words.proofs.Rows.{no_more, put_behind}
+use Rattle.desk_words.proofs.Rows.{put_behind}
 
 -- the command as it is built, and its options
 abbrev pub shape : Shape
@@ -61,40 +59,28 @@ attached setting digits = codes "--" ++ name_of setting ++ codes "=" ++ digits
 attached_turn : (s : Setting) (digits : Text) (rows : List Row) (pending : Pending) → settle_fault rules false (held rows pending) ≡ []
     → use_fault false (rule_for s) (digits ∷ []) (settled_rows rules pending rows) ≡ [] → turn_fault shape [] (between rows pending) (attached s digits) ≡ []
 unfolding clap_on_literals
-attached_turn Workers digits rows pending settles passes = rw (settles, passes) refl
-attached_turn Facts digits rows pending settles passes = rw (settles, passes) refl
-attached_turn Squares digits rows pending settles passes = rw (settles, passes) refl
+attached_turn s digits rows pending settles passes = grind arith
 
 attached_walk : (s : Setting) (digits : Text) (rows : List Row) (pending : Pending)
     → walked rules [] (between rows pending) (attached s digits) ≡ between (used (rule_for s) (digits ∷ []) (settled_rows rules pending rows)) None
 unfolding clap_on_literals
-attached_walk Workers digits rows pending = refl
-attached_walk Facts digits rows pending = refl
-attached_walk Squares digits rows pending = refl
+attached_walk s digits rows pending = grind arith
 
 dashed_turn : (s : Setting) (rows : List Row) (pending : Pending) → settle_fault rules false (held rows pending) ≡ [] → turn_fault shape [] (between rows pending) (dashed s) ≡ []
 unfolding clap_on_literals
-dashed_turn Workers rows pending settles = rw settles refl
-dashed_turn Facts rows pending settles = rw settles refl
-dashed_turn Squares rows pending settles = rw settles refl
+dashed_turn s rows pending settles = grind arith
 
 dashed_walk : (s : Setting) (rows : List Row) (pending : Pending) → walked rules [] (between rows pending) (dashed s) ≡ behind s (settled_rows rules pending rows)
 unfolding clap_on_literals
-dashed_walk Workers rows pending = refl
-dashed_walk Facts rows pending = refl
-dashed_walk Squares rows pending = refl
+dashed_walk s rows pending = grind arith
 
 value_turn : (s : Setting) (x : ℕ) (word : Text) (rows : List Row) → (x == 45) ≡ false → turn_fault shape [] (behind s rows) (x ∷ word) ≡ []
 unfolding clap_on_literals
-value_turn Workers x word rows other = let stripped : strip_byte 45 (x ∷ word) ≡ None = rw other refl in rw stripped (rw other refl)
-value_turn Facts x word rows other = let stripped : strip_byte 45 (x ∷ word) ≡ None = rw other refl in rw stripped (rw other refl)
-value_turn Squares x word rows other = let stripped : strip_byte 45 (x ∷ word) ≡ None = rw other refl in rw stripped (rw other refl)
+value_turn s x word rows other = grind arith
 
 value_walk : (s : Setting) (x : ℕ) (word : Text) (rows : List Row) → (x == 45) ≡ false → walked rules [] (behind s rows) (x ∷ word) ≡ between rows (Some (name_of s, (x ∷ word) ∷ []))
 unfolding clap_on_literals
-value_walk Workers x word rows other = let stripped : strip_byte 45 (x ∷ word) ≡ None = rw other refl in rw stripped (rw other refl)
-value_walk Facts x word rows other = let stripped : strip_byte 45 (x ∷ word) ≡ None = rw other refl in rw stripped (rw other refl)
-value_walk Squares x word rows other = let stripped : strip_byte 45 (x ∷ word) ≡ None = rw other refl in rw stripped (rw other refl)
+value_walk s x word rows other = grind arith
 
 abbrev pub flag : Text
 flag = codes "--" ++ progress_name
@@ -120,15 +106,11 @@ value_passes s digits taken rows fresh = rw (fresh, taken) refl
 -- it is the option that its id names
 settles_as : (s : Setting) (digits : Text) (rows : List Row) → settle_fault rules false (held rows (Some (name_of s, digits ∷ []))) ≡ use_fault false (rule_for s) (digits ∷ []) rows
 unfolding clap_on_literals
-settles_as Workers digits rows = refl
-settles_as Facts digits rows = refl
-settles_as Squares digits rows = refl
+settles_as s digits rows = grind arith
 
 settled_as : (s : Setting) (digits : Text) (rows : List Row) → settled_rows rules (Some (name_of s, digits ∷ [])) rows ≡ used (rule_for s) (digits ∷ []) rows
 unfolding clap_on_literals
-settled_as Workers digits rows = refl
-settled_as Facts digits rows = refl
-settled_as Squares digits rows = refl
+settled_as s digits rows = grind arith
 
 -- what is pending settles, and then these are the rows
 pub record Stands (rows before : List Row) (pending : Pending) : Type 0 where
@@ -152,7 +134,7 @@ put_used : (choice : Choice) (rows : List Row) → has_row (option_of choice) ro
     → with_values (option_of choice) (reading_by (rule_by choice)) CommandLine (text_for choice ∷ []) (without (option_of choice) rows) ≡ rows ++ row_for choice ∷ []
 put_used choice rows fresh =
     let id = option_of choice in
-    let out : without id rows ≡ rows = put_behind id (λ _. []) [] rows fresh ∙ no_more rows in
+    let out : without id rows ≡ rows = put_behind id (λ _. []) [] rows fresh ∙ append-nil rows in
     ap (with_values id (reading_by (rule_by choice)) CommandLine (text_for choice ∷ [])) out
     ∙ put_behind id (more_values CommandLine (text_for choice ∷ [])) (row_for choice ∷ []) rows fresh
 
@@ -174,9 +156,7 @@ pub record Leads (before : List Row) (pending : Pending) (words : List Text) (ro
   pub walk : (more : List Text) → fold (walked rules []) (between before pending) (words ++ more) ≡ fold (walked rules []) (between after waits) more
 
 most_small : (s : Setting) → most_of s ≤ 16777216
-most_small Workers = omega arith
-most_small Facts = omega arith
-most_small Squares = omega arith
+most_small s = grind arith
 
 pub no_plus : (digits : Text) → IsNumeral 10 digits → without_leading_plus digits ≡ digits
 no_plus [] h = refl
