@@ -1,5 +1,5 @@
 -- What is read where the words are choices.
-use Rattle.std.proofs.Common.{◌≡◌, ◌≢◌, ◌⊎◌, ◌∙◌, ◌++◌, ◌∷◌, ap, ap₂, ℕ, Bool, true, false, List, [], Option, Some, None, Result, Ok, Err, IfOk, refl, sym, subst, inl, inr, arith, codes}
+use Rattle.std.proofs.Common.{◌≡◌, ◌≢◌, ◌⊎◌, ◌∙◌, ◌++◌, ◌∷◌, ap, ℕ, Bool, true, false, List, [], Option, Some, None, Result, Ok, Err, IfOk, refl, sym, subst, inl, inr, arith, codes}
 use Rattle.std.specs.Prelude.{All, MatchResult, fold, if◌then◌else◌}
 use Rattle.std.specs.List.{slice_index_or}
 use Rattle.std.specs.Str.{bytes_eq}
@@ -118,18 +118,16 @@ three_on rows = with_default (two_on rows) (rule_for Squares)
 abbrev four_on : List Row → List Row
 four_on rows = with_default (three_on rows) progress_in
 
-default_step : (rows : List Row) (rule : Rule) (more : List Rule) → default_fault rows rule ≡ [] → defaults_fault rows (rule ∷ more) ≡ defaults_fault (with_default rows rule) more
-unfolding defaults_fault
-default_step rows rule more passes = rw passes refl
-
 defaults_pass : (rows : List Row) → defaults_fault rows rules ≡ []
 unfolding defaults_fault help_in
 defaults_pass rows =
-    default_step rows (rule_for Workers) (rule_for Facts ∷ rule_for Squares ∷ progress_in ∷ help_in ∷ []) (default_passes (number Workers) rows)
-    ∙ default_step (one_on rows) (rule_for Facts) (rule_for Squares ∷ progress_in ∷ help_in ∷ []) (default_passes (number Facts) (one_on rows))
-    ∙ default_step (two_on rows) (rule_for Squares) (progress_in ∷ help_in ∷ []) (default_passes (number Squares) (two_on rows))
-    ∙ default_step (three_on rows) progress_in (help_in ∷ []) (default_passes flag (three_on rows))
-    ∙ default_step (four_on rows) help_in [] (help_passes (four_on rows))
+    rw (
+      default_passes (number Workers) rows,
+      default_passes (number Facts) (one_on rows),
+      default_passes (number Squares) (two_on rows),
+      default_passes flag (three_on rows),
+      help_passes (four_on rows),
+    ) refl
 
 -- so nothing is refused
 ends_pass : (words : List Text) (rows : List Row) → Ends words rows [] None → faults words ≡ []
@@ -145,7 +143,7 @@ told o rows = if has_row (id_of o) rows then one_of (id_of o) rows else Some (us
 
 told_as : (o : Named) (rows others : List Row) → has_row (id_of o) rows ≡ has_row (id_of o) others → one_of (id_of o) rows ≡ one_of (id_of o) others → told o rows ≡ told o others
 unfolding told
-told_as o rows others has text = ap₂ (λ (b : Bool) (v : Option Text). if b then v else Some (usual_for o)) has text
+told_as o rows others has text = grind arith
 
 -- the row of a default
 default_row : Named → Row
@@ -207,10 +205,7 @@ choice_text choice = grind arith
 
 push_this : (choice : Choice) (t : Named) (rows : List Row) → option_of choice ≡ id_of t → has_row (option_of choice) rows ≡ false → told t (rows ++ row_for choice ∷ []) ≡ Some (text_for choice)
 unfolding told
-push_this choice t rows same fresh =
-    let this : bytes_eq (option_of choice) (id_of t) ≡ true = (bytes_eq-Decides (option_of choice) (id_of t)).1 same in
-    let clear : has_row (id_of t) rows ≡ false = subst (λ n. has_row n rows ≡ false) same fresh in
-    rw (has_this (id_of t) rows (row_for choice) this) (text_this (id_of t) rows (row_for choice) clear this ∙ choice_text choice)
+push_this choice t rows same fresh = grind (arith, bytes_eq-Decides (option_of choice) (id_of t), has_this (id_of t) rows (row_for choice), text_this (id_of t) rows (row_for choice), choice_text choice)
 
 -- the text that choices have for an option, or its default
 text_by : Named → List Choice → Text
@@ -228,12 +223,9 @@ told_next : (t : Named) (choice : Choice) (choices : List Choice) (rows : List R
     → (option_of choice ≡ id_of t) ⊎ (bytes_eq (option_of choice) (id_of t) ≡ false) → told t (rows_by choices (rows ++ row_for choice ∷ [])) ≡ Some (text_by t (choice ∷ choices))
 unfolding text_by
 told_next t choice choices rows now others rest (inl same) =
-    let this : bytes_eq (option_of choice) (id_of t) ≡ true = (bytes_eq-Decides (option_of choice) (id_of t)).1 same in
-    absent t choices (rows ++ row_for choice ∷ []) (subst (λ n. All (λ other. option_of other ≢ n) choices) same others)
-    ∙ push_this choice t rows same now
-    ∙ ap (λ b. Some (if b then text_for choice else text_by t choices)) (sym this)
-told_next t choice choices rows now others rest (inr other) =
-    rest (push_other choice t rows other) ∙ ap (λ b. Some (if b then text_for choice else text_by t choices)) (sym other)
+    let gone = absent t choices (rows ++ row_for choice ∷ []) (subst (λ n. All (λ other. option_of other ≢ n) choices) same others) in
+    grind (arith, bytes_eq-Decides (option_of choice) (id_of t), push_this choice t rows same now)
+told_next t choice choices rows now others rest (inr other) = grind (arith, push_other choice t rows other)
 
 told_by : (t : Named) (choices : List Choice) (rows : List Row) → AreOnce choices → AreFresh rows choices → told t rows ≡ Some (usual_for t) → told t (rows_by choices rows) ≡ Some (text_by t choices)
 unfolding text_by

@@ -1,5 +1,5 @@
 -- What is read, after a parse, of an argument that has a default.
-use Rattle.std.proofs.Common.{◌≡◌, ◌∙◌, ◌<◌, ◌≤◌, ◌∷◌, ap, ℕ, zero, suc, Bool, true, false, List, [], length, is_some, Option, Some, None, refl, sym, subst, inl, inr, arith}
+use Rattle.std.proofs.Common.{◌≡◌, ◌∙◌, ◌<◌, ◌≤◌, ◌∷◌, ap, ℕ, zero, suc, true, false, List, [], length, is_some, Option, Some, None, refl, sym, subst, arith}
 use Rattle.std.specs.List.{All, slice_index_or}
 use Rattle.std.specs.Str.{bytes_eq}
 use Rattle.std.specs.Prelude.{find, option_map, slice_get}
@@ -11,7 +11,7 @@ use Rattle.clap.specs.Built.{IsAuto, IsParsedFrom, IsPlain, SameRules}
 use Rattle.clap.specs.Matches.{found_of, matched_of, one_text}
 use Rattle.clap.specs.Values.{Accepts, read_as, reading_of}
 use Rattle.clap.proofs.CallerLemmas.{default_present, entry_by_id, same_rules_by_id}
-use Rattle.clap.specs.declared.builder.action.ArgAction.TheVariants.{Count, Set}
+use Rattle.clap.specs.declared.builder.action.ArgAction.TheVariants.{Set}
 use Rattle.clap.specs.declared.builder.arg.Arg.{Arg}
 use Rattle.clap.specs.declared.builder.command.Command.{Command}
 use Rattle.clap.specs.declared.builder.command.Command.TheViews.{out-Command}
@@ -26,12 +26,7 @@ found_at : (xs : List Entry) (id : List ℕ) (i : ℕ) → i < length xs → ((d
     → is_some (option_map (λ (e : Entry). e.1) (find (λ (e : Entry). bytes_eq e.0.now id) xs)) ≡ true
 found_at [] id i low is = absurd (omega (arith, low))
 found_at (x ∷ xs) id zero low is = rw (is x) refl
-found_at (x ∷ xs) id (suc i) low is = go (bytes_eq x.0.now id) refl (found_at xs id i (omega (arith, low)) is)
-  where
-    go : (t : Bool) → bytes_eq x.0.now id ≡ t → is_some (option_map (λ (e : Entry). e.1) (find (λ (e : Entry). bytes_eq e.0.now id) xs)) ≡ true
-        → is_some (option_map (λ (e : Entry). e.1) (find (λ (e : Entry). bytes_eq e.0.now id) (x ∷ xs))) ≡ true
-    go true t rest = rw t refl
-    go false t rest = rw t rest
+found_at (x ∷ xs) id (suc i) low is = grind (arith, found_at xs id i)
 
 -- the first of some values, of which each has a property
 first_read : (P : Bor (List ℕ) → Type 0) (how : Reading) (vs : List (Bor (List ℕ))) → All P vs → 0 < length vs
@@ -47,62 +42,36 @@ text_of f id x how t found is v = rw (found, is) v
 abbrev OnlyRules : Command → Arg → Type 0
 OnlyRules built a = (j : ℕ) (x : Arg) → j < length (args_of built) → slice_index_or (args_of built) j x ≡ x → bytes_eq x.id.now a.id.now ≡ true → SameRules a x
 
-not_none : (n : ℕ) → 1 ≤ n → n ≡ 0 → ⊥
-not_none n some none = omega (arith, some, none)
-
 parser_is : (a y : Arg) (q : ValueParser) → SameRules a y → a.value_parser ≡ Some q → parser_of y ≡ q
 parser_is a y q s parser = ap parser_of_value (s.parser q parser)
 
 -- a value that passed its parser
 accepted : (built : Command) (a : Arg) (q : ValueParser) (t : List ℕ) → OnlyRules built a → a.value_parser ≡ Some q → PassesArg built a.id.now t → Accepts a.ignore_case q t
-accepted built a q t rules parser any =
-    let s = rules any.0 any.1 any.2 any.3 any.4.0 in
-    subst (λ (b : Bool). Accepts b q t) s.ignore_case (subst (λ (p : ValueParser). Accepts any.1.ignore_case p t) (parser_is a any.1 q s parser) any.4.1)
+accepted built a q t rules parser any = let s = rules any.0 any.1 any.2 any.3 any.4.0 in grind (arith, s.ignore_case, parser_is a any.1 q s parser)
 
 -- and is read as its parser says
 reads_as : (built : Command) (a : Arg) (q : ValueParser) (how : Reading) → OnlyRules built a → a.value_parser ≡ Some q → HasReading built a.id.now how → how ≡ reading_of q
-reads_as built a q how rules parser any =
-    sym any.4.1 ∙ ap reading_of (parser_is a any.1 q (rules any.0 any.1 any.2 any.3 any.4.0) parser)
+reads_as built a q how rules parser any = let s = rules any.0 any.1 any.2 any.3 any.4.0 in grind (arith, parser_is a any.1 q s parser)
 
 -- such an argument doesn't count
 no_count : (built : Command) (a : Arg) → OnlyRules built a → a.action ≡ Some Set → IsCountArg built a.id.now → ⊥
-no_count built a rules set any =
-    let is_set : any.1.action ≡ Some Set = (rules any.0 any.1 any.2 any.3 any.4.0).action Set set in
-    let bad : Set ≡ Count = rw is_set at any.4.1 in
-    absurd (cc bad)
+no_count built a rules set any = let is = (rules any.0 any.1 any.2 any.3 any.4.0).action Set set in grind arith
 
 -- and doesn't go without a value
 no_lack : (built : Command) (a : Arg) → OnlyRules built a → a.action ≡ Some Set → a.val_delim ≡ None → 1 ≤ least_values a → AllowsNone built a.id.now → ⊥
-no_lack built a rules set delim least any =
-    let s = rules any.0 any.1 any.2 any.3 any.4.0 in
-    elim any.4.1 [
-      | inl none ↦ not_none (least_values any.1) (s.least set least) none
-      | inr has ↦
-          let bad : false ≡ true = rw (s.val_delim, delim) at has in
-          absurd (cc bad)
-    ]
+no_lack built a rules set delim least any = let s = rules any.0 any.1 any.2 any.3 any.4.0 in grind (arith, s.least set least, s.val_delim)
 
 no_group : (built : Command) (e : Entry) (id : List ℕ) → groups_of built ≡ [] → (id ≡ [] → ⊥) → e.0.now ≡ id → IsGroupEntry built e → e.1.is_group ≡ true → ⊥
-no_group built e id groups named key pass g = elim (pass g) [
-  | inl empty ↦ named (sym key ∙ empty)
-  | inr lots ↦
-      let bad : 0 < 0 = rw groups at lots in
-      not_none 0 bad refl
-]
+no_group built e id groups named key pass g = grind (arith, pass g)
 
 filled_of : (built : Command) (e : Entry) → (e.1.is_group ≡ true → ⊥) → (IsCountArg built e.0.now → ⊥) → (AllowsNone built e.0.now → ⊥) → IsFilledEntry built e → 0 < length e.1.vals.items
-filled_of built e group count lack (inl g) = absurd (group g.0)
-filled_of built e group count lack (inr (inl v)) = v
-filled_of built e group count lack (inr (inr (inl h))) = absurd (count h.1)
-filled_of built e group count lack (inr (inr (inr h))) = absurd (lack h)
+filled_of built e group count lack is = grind arith
 
 pass_of : (built : Command) (e : Entry) → (e.1.is_group ≡ true → ⊥) → EntryValuesPass built e → All (λ v. PassesArg built e.0.now v.now) e.1.vals.items
-pass_of built e group (inl g) = absurd (group g)
-pass_of built e group (inr vals) = vals
+pass_of built e group is = grind arith
 
 reading_at : (built : Command) (e : Entry) → (e.1.is_group ≡ true → ⊥) → ReadsByParser built e → HasReading built e.0.now e.1.reading
-reading_at built e group (inl g) = absurd (group g)
-reading_at built e group (inr any) = any
+reading_at built e group is = grind arith
 
 -- what the entry of that argument gives
 entry_gives : (built : Command) (f : Found) (a : Arg) (q : ValueParser) (e : Entry) → OnlyRules built a → groups_of built ≡ []
@@ -137,16 +106,6 @@ find_entry built f a q some values gives = go (matched_of f a.id.now) refl some
     go (Some x) found some =
         let got = entry_by_id (EntryPasses built) f.entries.items a.id.now x values found in
         gives got.0 (found ∙ ap (λ (y : MatchedArg). Some y) (sym got.1)) ((bytes_eq-Decides got.0.0.now a.id.now).0 got.2) got.3
-
--- the same of an argument with the same rules
-told_again : (f : Found) (a b : Arg) (q : ValueParser) → SameRules a b → b.id.now ≡ a.id.now
-    → (t : List ℕ) × (one_text f b.id.now ≡ Some (read_as (reading_of q) t)) × Accepts b.ignore_case q t
-    → (t : List ℕ) × (one_text f a.id.now ≡ Some (read_as (reading_of q) t)) × Accepts a.ignore_case q t
-told_again f a b q rules same got = (
-  got.0,
-  subst (λ (w : List ℕ). one_text f w ≡ Some (read_as (reading_of q) got.0)) same got.1,
-  subst (λ (c : Bool). Accepts c q got.0) rules.ignore_case got.2,
-)
 
 -- an argument of a plain command, where it has a default and takes a value, has a text that passed its parser
 pub default_read : (cmd : Command) (m : ArgMatches) → IsParsedFrom cmd m → IsPlain cmd → (out-Command cmd).has_globals ≡ false

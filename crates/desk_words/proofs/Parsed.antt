@@ -1,5 +1,5 @@
 -- Whatever the command parses, each setting has a number.
-use Rattle.std.proofs.Common.{◌≡◌, ◌∙◌, ◌<◌, ◌≤◌, ◌++◌, ◌∷◌, ◌||◌, ap, ap₂, codes, ℕ, zero, suc, true, false, List, [], length, Some, None, sym, subst, inl, inr, arith, slice_index}
+use Rattle.std.proofs.Common.{◌≡◌, ◌∙◌, ◌<◌, ◌≤◌, ◌∷◌, ap, codes, ℕ, zero, suc, true, false, List, [], length, Some, None, sym, subst, arith, slice_index}
 use Rattle.std.specs.List.{All, slice_index_or}
 use Rattle.std.specs.Str.{bytes_eq}
 use Rattle.std.proofs.lemmas.List.Elements.{All-nil}
@@ -76,9 +76,7 @@ progress_differs : (s : Setting) → bytes_eq progress_name (name_of s) ≡ true
 progress_differs s e = grind arith
 
 progress_at : (xs : List Arg) → HasSettings xs → (s : Setting) (e : Arg) → bytes_eq (slice_index_or xs 3 e).id.now (name_of s) ≡ true → ⊥
-progress_at xs has s e same =
-    let is : (slice_index_or xs 3 e).id.now ≡ progress_name = subst (λ l. (slice_index_or l 3 e).id.now ≡ progress_name) (sym has.list) has.progress_is in
-    progress_differs s (subst (λ n. bytes_eq n (name_of s) ≡ true) is same)
+progress_at xs has s e same = grind (arith, progress_differs s)
 
 only_at : (xs : List Arg) → HasSettings xs → (s : Setting) (j : ℕ) (e : Arg) → j < length xs → bytes_eq (slice_index_or xs j e).id.now (name_of s) ≡ true → j ≡ place s
 only_at xs has s zero e low same = named_at xs has s Workers e same
@@ -96,8 +94,7 @@ head_is : (s : Setting) → (slice_index (name_of s) 0 ≡ 104 → ⊥) × (slic
 head_is s = grind arith
 
 own : (s : Setting) (x : Arg) → x.id.now ≡ name_of s → IsAuto x → ⊥
-own s x id (inl h) = (head_is s).0 (ap (λ n. slice_index n 0) (sym id ∙ h))
-own s x id (inr h) = (head_is s).1 (ap (λ n. slice_index n 0) (sym id ∙ h))
+own s x id auto = grind (arith, head_is s)
 
 has_number : (cmd : Command) → HasSettings (args_of cmd) → IsPlain cmd → (out-Command cmd).has_globals ≡ false → (d : Arg) → AlwaysGives cmd
 has_number cmd has plain globals d m p s =
@@ -117,7 +114,7 @@ pub record IsBare (c : Command) : Type 0 where
   pub globals : (out-Command c).has_globals ≡ false
 
 still_local : (a b : Command) (x : Arg) → AddsArg a x b → (out-Command a).has_globals ≡ false → x.global ≡ false → (out-Command b).has_globals ≡ false
-still_local a b x added globals own = added.globals ∙ (ap (λ g. g || x.global) globals ∙ ap (λ g. false || g) own)
+still_local a b x added globals own = grind (arith, added.globals)
 
 -- a command with the three settings, and progress, gives each setting a number
 pub always_gives : (start one two three four : Command) (a b c d : Arg) → IsBare start → AddsArg start a one → AddsArg one b two → AddsArg two c three → AddsArg three d four
@@ -131,9 +128,7 @@ always_gives start one two three four a b c d bare first second third fourth is-
     let one-local = still_local start one a first bare.globals is-a.own in
     let two-local = still_local one two b second one-local is-b.own in
     let three-local = still_local two three c third two-local is-c.own in
-    let list : args_of four ≡ first.arg ∷ second.arg ∷ third.arg ∷ fourth.arg ∷ [] =
-    fourth.args ∙ ap (λ l. l ++ fourth.arg ∷ []) (third.args ∙ ap (λ l. l ++ third.arg ∷ [])
-    (second.args ∙ ap (λ l. l ++ second.arg ∷ []) (first.args ∙ ap (λ l. l ++ first.arg ∷ []) bare.args))) in
+    let list : args_of four ≡ first.arg ∷ second.arg ∷ third.arg ∷ fourth.arg ∷ [] = grind (arith, first.args, second.args, third.args, fourth.args, bare.args) in
     has_number four (record {
       workers = first.arg;
       facts = second.arg;
@@ -147,7 +142,7 @@ always_gives start one two three four a b c d bare first second third fourth is-
     }) four-plain (still_local three four d fourth three-local is-d.own) a
 
 with_arg : (a b : Command) (x : Arg) (app : App) (rule : Rule) → AddsArg a x b → x.global ≡ false → app_of a ≡ app → rule_of x ≡ rule → app_of b ≡ with_rule app rule
-with_arg a b x app rule added own is same = added.shape own ∙ ap₂ with_rule is same
+with_arg a b x app rule added own is same = grind (arith, added.shape)
 
 -- such a command is `desk`
 pub app_is : (start one two three four : Command) (a b c d : Arg) → app_of start ≡ nameless_app (codes "desk") → AddsArg start a one → AddsArg one b two → AddsArg two c three → AddsArg three d four

@@ -9,7 +9,7 @@ use Rattle.clap.specs.Values.{refused_kind}
 use Rattle.clap.proofs.ValueTestLemmas.{Accepts-accepts}
 use Rattle.clap.specs.declared.parser.matches.ValueSource.TheVariants.{CommandLine}
 use Rattle.clap.specs.Faults.{settle_fault, turn_fault, use_fault, walk_fault}
-use Rattle.clap.specs.Kinds.{or_else, value_kinds}
+use Rattle.clap.specs.Kinds.{value_kinds}
 use Rattle.clap.specs.Simple.{Shape, built, filled, with_index}
 use Rattle.clap.specs.Walk.{Held, Row, Rule, Text, Walk, has_row, more_values, reading_by, settled_rows, used, walked, with_values, without}
 use Rattle.clap.specs.Walk.Waiting.{idle, option}
@@ -141,11 +141,10 @@ put_used choice rows fresh =
 -- one word more
 fault_step : (w after : Walk) (word : Text) (more : List Text) → turn_fault shape [] w word ≡ [] → walked rules [] w word ≡ after → walk_fault shape [] w (word ∷ more) ≡ walk_fault shape [] after more
 unfolding walk_fault
-fault_step w after word more turn step =
-    ap (λ k. or_else k (walk_fault shape [] (walked rules [] w word) more)) turn ∙ ap (λ v. walk_fault shape [] v more) step
+fault_step w after word more turn step = rw (turn, step) refl
 
 fold_step : (w after : Walk) (word : Text) (more : List Text) → walked rules [] w word ≡ after → fold (walked rules []) w (word ∷ more) ≡ fold (walked rules []) after more
-fold_step w after word more step = ap (λ v. fold (walked rules []) v more) step
+fold_step w after word more step = rw step refl
 
 -- from one place between choices the words lead to another, whatever follows
 pub record Leads (before : List Row) (pending : Pending) (words : List Text) (rows : List Row) : Type 0 where
@@ -172,22 +171,17 @@ taken s digits apart order =
     let accepted = Accepts-accepts false parser digits (rw (no_plus digits order.0) (order.0, small, order.1, order.2)) in
     ap (λ b. if b then [] else refused_kind parser ∷ []) accepted
 
-attached_leads : (s : Setting) (digits : Text) (apart : Bool) (rows before : List Row) (pending : Pending) → Stands rows before pending → IsInOrder (numbered s digits apart) → has_row (name_of s) rows ≡ false
-    → Leads before pending (attached s digits ∷ []) (rows ++ row_for (numbered s digits apart) ∷ [])
-attached_leads s digits apart rows before pending stands order fresh =
-    let choice = numbered s digits apart in
-    let word = attached s digits in
-    let settled = settled_rows rules pending before in
-    let clear : has_row (name_of s) settled ≡ false = ap (has_row (name_of s)) stands.are ∙ fresh in
-    let turn = attached_turn s digits before pending stands.settles (value_passes s digits (taken s digits apart order) settled clear) in
-    let step = attached_walk s digits before pending in
-    record {
-      after = used (rule_for s) (digits ∷ []) settled;
-      waits = None;
-      stands = record { settles = refl; are = put_used choice settled clear ∙ ap (λ r. r ++ row_for choice ∷ []) stands.are };
-      faults = λ more. fault_step (between before pending) _ word more turn step;
-      walk = λ more. fold_step (between before pending) _ word more step;
-    }
+-- one word puts a row behind the others, if the row that is used by it stands there
+one_leads : (choice : Choice) (word : Text) (rows before after : List Row) (pending : Pending) → Stands rows before pending → turn_fault shape [] (between before pending) word ≡ []
+    → walked rules [] (between before pending) word ≡ between after None → after ≡ settled_rows rules pending before ++ row_for choice ∷ []
+    → Leads before pending (word ∷ []) (rows ++ row_for choice ∷ [])
+one_leads choice word rows before after pending stands turn step put = record {
+  after = after;
+  waits = None;
+  stands = record { settles = refl; are = put ∙ ap (λ r. r ++ row_for choice ∷ []) stands.are };
+  faults = λ more. fault_step (between before pending) _ word more turn step;
+  walk = λ more. fold_step (between before pending) _ word more step;
+}
 
 apart_leads : (s : Setting) (digits : Text) (apart : Bool) (rows before : List Row) (pending : Pending) → Stands rows before pending → IsInOrder (numbered s digits apart) → has_row (name_of s) rows ≡ false
     → Leads before pending (dashed s ∷ digits ∷ []) (rows ++ row_for (numbered s digits apart) ∷ [])
@@ -211,24 +205,16 @@ apart_leads s (x ∷ word) apart rows before pending stands order fresh =
       walk = λ more. fold_step (between before pending) _ (dashed s) ((x ∷ word) ∷ more) first ∙ fold_step (behind s settled) _ (x ∷ word) more second;
     }
 
-flag_leads : (rows before : List Row) (pending : Pending) → Stands rows before pending → has_row progress_name rows ≡ false
-    → Leads before pending (flag ∷ []) (rows ++ row_for progress ∷ [])
-flag_leads rows before pending stands fresh =
-    let settled = settled_rows rules pending before in
-    let clear : has_row progress_name settled ≡ false = ap (has_row progress_name) stands.are ∙ fresh in
-    let turn = flag_turn before pending stands.settles (flag_passes settled clear) in
-    let step = flag_walk before pending in
-    record {
-      after = used progress_in [] settled;
-      waits = None;
-      stands = record { settles = refl; are = put_used progress settled clear ∙ ap (λ r. r ++ row_for progress ∷ []) stands.are };
-      faults = λ more. fault_step (between before pending) _ flag more turn step;
-      walk = λ more. fold_step (between before pending) _ flag more step;
-    }
-
 -- the words of a choice in order put its row behind the others
 pub choice_leads : (choice : Choice) (rows before : List Row) (pending : Pending) → Stands rows before pending → IsInOrder choice → has_row (option_of choice) rows ≡ false
     → Leads before pending (words_of choice) (rows ++ row_for choice ∷ [])
 choice_leads (numbered s digits true) rows before pending stands order fresh = apart_leads s digits true rows before pending stands order fresh
-choice_leads (numbered s digits false) rows before pending stands order fresh = attached_leads s digits false rows before pending stands order fresh
-choice_leads progress rows before pending stands order fresh = flag_leads rows before pending stands fresh
+choice_leads (numbered s digits false) rows before pending stands order fresh =
+    let settled = settled_rows rules pending before in
+    let clear : has_row (name_of s) settled ≡ false = ap (has_row (name_of s)) stands.are ∙ fresh in
+    let turn = attached_turn s digits before pending stands.settles (value_passes s digits (taken s digits false order) settled clear) in
+    one_leads (numbered s digits false) (attached s digits) rows before _ pending stands turn (attached_walk s digits before pending) (put_used (numbered s digits false) settled clear)
+choice_leads progress rows before pending stands order fresh =
+    let settled = settled_rows rules pending before in
+    let clear : has_row progress_name settled ≡ false = ap (has_row progress_name) stands.are ∙ fresh in
+    one_leads progress flag rows before _ pending stands (flag_turn before pending stands.settles (flag_passes settled clear)) (flag_walk before pending) (put_used progress settled clear)

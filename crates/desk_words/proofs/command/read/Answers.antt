@@ -1,27 +1,19 @@
-use Rattle.std.proofs.Common.{◌≡◌, [], Ok, rules, map, IfOk}
-use Rattle.clap.specs.Words.{FailsBy, found_of}
+use Rattle.std.proofs.Common.{Ok, rules, map}
+use Rattle.clap.specs.Words.{found_of}
 use Rattle.desk_words.specs.declared.settings.Setting.TheVariants.{Workers, Facts, Squares}
-use Rattle.desk_words.specs.Command.{Chooses, faults}
 use Rattle.desk_words.proofs.Asked.{asked_reads}
 use Rattle.desk_words.proofs.Chosen.{chooses_for, says_as}
 use Rattle.desk_words.proofs.Requests.{help_answers, plain_refused}
 use Rattle.desk_words.proofs.command.read.Goals as goal
 
 pub returns-in_err-matches-clause-given : goal.returns-in_err-matches-clause-given
-returns-in_err-matches-clause-given g c =
-    let fails : FailsBy (faults (map g.S.AsStr.text c.args.words.now)) c.from_residual.result = search rules in
-    let chosen : IfOk c.from_residual.result (Chooses (map g.S.AsStr.text c.args.words.now)) = search rules in
-    asked_reads (map g.S.AsStr.text c.args.words.now) c.from_residual.result fails chosen
+returns-in_err-matches-clause-given g c = asked_reads (map g.S.AsStr.text c.args.words.now) c.from_residual.result (search rules) (search rules)
 
 pub returns-in_err-matches-clause-plain : goal.returns-in_err-matches-clause-plain
-returns-in_err-matches-clause-plain g c =
-    let fails : FailsBy (faults (map g.S.AsStr.text c.args.words.now)) c.from_residual.result = search rules in
-    plain_refused (map g.S.AsStr.text c.args.words.now) c.from_residual.result fails
+returns-in_err-matches-clause-plain g c = plain_refused (map g.S.AsStr.text c.args.words.now) c.from_residual.result (search rules)
 
 pub returns-in_err-matches-clause-help : goal.returns-in_err-matches-clause-help
-returns-in_err-matches-clause-help g c =
-    let fails : FailsBy (faults (map g.S.AsStr.text c.args.words.now)) c.from_residual.result = search rules in
-    help_answers (map g.S.AsStr.text c.args.words.now) c.from_residual.result fails
+returns-in_err-matches-clause-help g c = help_answers (map g.S.AsStr.text c.args.words.now) c.from_residual.result (search rules)
 
 pub number-workers-requires : goal.number-workers-requires
 number-workers-requires g c = (c.in_ok-matches.ensures.gives.settings Workers).0
@@ -50,11 +42,7 @@ returns-clause-given g c =
     c.in_ok-matches.ensures.faults (returns-clause-chosen g c)
 
 pub returns-clause-plain : goal.returns-clause-plain
-returns-clause-plain g c plain =
-    let reads : faults (map g.S.AsStr.text c.args.words.now) ≡ [] = c.in_ok-matches.ensures.faults in
-    plain_refused (map g.S.AsStr.text c.args.words.now) (Ok (tt {0})) reads plain
+returns-clause-plain g c = plain_refused (map g.S.AsStr.text c.args.words.now) (Ok (tt {0})) c.in_ok-matches.ensures.faults
 
 pub returns-clause-help : goal.returns-clause-help
-returns-clause-help g c asks =
-    let reads : faults (map g.S.AsStr.text c.args.words.now) ≡ [] = c.in_ok-matches.ensures.faults in
-    help_answers (map g.S.AsStr.text c.args.words.now) (Ok (tt {0})) reads asks
+returns-clause-help g c = help_answers (map g.S.AsStr.text c.args.words.now) (Ok (tt {0})) c.in_ok-matches.ensures.faults
