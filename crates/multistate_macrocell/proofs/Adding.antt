@@ -1,5 +1,5 @@
 -- Rows that are added one behind another.
-use Rattle.std.proofs.Common.{◌≡◌, ℕ, zero, suc, ◌-◌, ◌<◌, ◌≤◌, List, [], ◌∷◌, ◌++◌, length, get_or, refl, sym, ap, ap₂, ◌∙◌, subst, arith, append-nil, lit<}
+use Rattle.std.proofs.Common.{◌≡◌, ℕ, zero, suc, ◌-◌, ◌<◌, ◌≤◌, List, [], ◌∷◌, ◌++◌, length, get_or, refl, sym, ap, ◌∙◌, subst, arith, append-nil, lit<}
 use Rattle.std.proofs.lemmas.List.{length_push, get_or_push}
 use Rattle.plane_core.specs.declared.row.SquareRow.{SquareRow}
 use Rattle.worlds.specs.Square.{Square, one, four}
@@ -35,10 +35,8 @@ pushed_square : (rows : List SquareRow) (row : SquareRow) → AreRows rows → I
 pushed_square rows row valid is =
     let all = rows ++ row ∷ [] in
     let k = row.level - 1 in
-    square_in-row all k (length rows)
-    ∙ ap (λ (r : SquareRow). four (square_in all k (kid r 0)) (square_in all k (kid r 1)) (square_in all k (kid r 2)) (square_in all k (kid r 3))) (get_or_push rows row no_row (length rows) refl)
-    ∙ ap₂ (λ (a b : Square). four a b (square_in all k (kid row 2)) (square_in all k (kid row 3))) (kid_stays rows row 0 valid is (lit< tt)) (kid_stays rows row 1 valid is (lit< tt))
-    ∙ ap₂ (λ (c d : Square). four (square_in rows k (kid row 0)) (square_in rows k (kid row 1)) c d) (kid_stays rows row 2 valid is (lit< tt)) (kid_stays rows row 3 valid is (lit< tt))
+    let stays = λ (q : ℕ) (h : q < 4). kid_stays rows row q valid is h in
+    cc (square_in-row all k (length rows), get_or_push rows row no_row (length rows) refl, stays 0 (lit< tt), stays 1 (lit< tt), stays 2 (lit< tt), stays 3 (lit< tt))
 
 -- one row behind others
 pub adds-row : (rows new : List SquareRow) (row : SquareRow) (n : ℕ) → AreRows rows → IsRow rows row → new ≡ rows ++ row ∷ [] → n ≡ length new → Adds rows new row.level n (square_of_row rows row)
@@ -106,20 +104,10 @@ module _ (r0 r1 r2 r3 r4 : List SquareRow) (k a b c d : ℕ) (nw ne sw se : Squa
       let is_nw = square_in-grown r1 r4 k a g2 adds.first.valid adds.first.number ∙ adds.first.names in
       let is_ne = square_in-grown r2 r4 k b g3 adds.second.valid adds.second.number ∙ adds.second.names in
       let is_sw = square_in-grown r3 r4 k c g4 adds.third.valid adds.third.number ∙ adds.third.names in
-      ap (λ j. four (square_in r4 j a) (square_in r4 j b) (square_in r4 j c) (square_in r4 j d)) less
-      ∙ ap₂ (λ (s t : Square). four s t (square_in r4 k c) (square_in r4 k d)) is_nw is_ne
-      ∙ ap₂ (λ (s t : Square). four nw ne s t) is_sw adds.fourth.names
+      cc
 
   -- so that the four and their row add the square of the four
   pub adds-four : (level n : ℕ) (r5 : List SquareRow) (t : Square) → level ≡ suc k → t ≡ four nw ne sw se → Adds r4 r5 level n (square_of_row r4 (row_of level a b c d)) → Adds r0 r5 level n t
   adds-four level n r5 t e is row =
       let g = Grows-then r0 r1 r5 g1 (Grows-then r1 r4 r5 g2 (adds-grows r4 r5 level n (square_of_row r4 (row_of level a b c d)) row)) in
-      record {
-        more = g.more;
-        grown = g.is;
-        valid = row.valid;
-        number = row.number;
-        names = row.names ∙ four-square level e ∙ sym is;
-        last = row.last;
-        root = row.root;
-      }
+      record { more = g.more; grown = g.is; valid = row.valid; number = row.number; names = row.names ∙ four-square level e ∙ sym is; last = row.last; root = row.root }

@@ -1,5 +1,5 @@
 -- The cells of the world of nodes.
-use Rattle.std.proofs.Common.{◌≡◌, ◌∙◌, sym, ap, refl, subst, ℕ, zero, suc, ◌+◌, ◌-◌, ◌<◌, ◌^◌, Bool, true, false, cond, List, [], length, take, Some, arith, pos, ◌+ℤ◌}
+use Rattle.std.proofs.Common.{◌≡◌, ◌∙◌, sym, ap, refl, subst, ℕ, zero, suc, ◌+◌, ◌-◌, ◌<◌, ◌^◌, Bool, cond, List, [], length, take, Some, arith, pos, ◌+ℤ◌}
 use Rattle.std.specs.Prelude.{IsTrue, slice_get}
 use Rattle.std.proofs.lemmas.Option.{slice_get_within}
 use Rattle.macrocell_lines.specs.declared.bitmap.Bitmap.{Bitmap}
@@ -17,8 +17,7 @@ use Rattle.multistate_macrocell.proofs.Children.{child-earlier, child-found, chi
 use Rattle.multistate_macrocell.proofs.Standing.{level_live, named-node, named-none, world-nodes-root}
 
 cell_small : (live : Bool) → cond live 1 0 < 256
-cell_small true = omega arith
-cell_small false = omega arith
+cell_small live = grind arith
 
 drawn-IsSquare : (bitmap : Bitmap) (k x y : ℕ) → IsSquare k (drawn bitmap k x y)
 unfolding drawn

@@ -1,12 +1,12 @@
 -- The row of a node stands for its square.
-use Rattle.std.proofs.Common.{◌≡◌, ◌∙◌, sym, ap₂, subst, ℕ, zero, suc, ◌<◌, List, arith}
+use Rattle.std.proofs.Common.{◌≡◌, sym, subst, ℕ, zero, suc, ◌<◌, List, arith}
 use Rattle.macrocell_lines.specs.declared.bitmap.Bitmap.{Bitmap}
 use Rattle.macrocell_lines.specs.declared.node.Node.{Node}
 use Rattle.macrocell_lines.specs.declared.node.Node.TheVariants.{Cells, Square as Quartered, Bitmap as Drawn}
 use Rattle.macrocell_lines.specs.Nodes.{AreStates, level_of}
 use Rattle.plane_core.specs.declared.row.SquareRow.{SquareRow}
-use Rattle.worlds.specs.Square.{Square, one, four}
-use Rattle.plane_core.specs.Rows.{IsNumber, IsRow, kid, square_in}
+use Rattle.worlds.specs.Square.{Square}
+use Rattle.plane_core.specs.Rows.{IsNumber, IsRow, kid}
 use Rattle.plane_core.proofs.Shared.Sound.{IsNumber-state, row_of, square_in-state}
 use Rattle.multistate_macrocell.specs.Quadtree.{drawn, square_of}
 use Rattle.multistate_macrocell.specs.Tables.{Adds, CanFollow, row_number, square_by, square_of_row}
@@ -24,9 +24,7 @@ cells-row rows a b c d h = record { low = omega arith; high = omega arith; kids 
 
 cells_square : (rows : List SquareRow) (numbers : List ℕ) (a b c d : ℕ) → square_of_row rows (row_of 1 a b c d) ≡ square_by rows numbers (Cells a b c d)
 unfolding square_of
-cells_square rows numbers a b c d =
-    ap₂ (λ (s t : Square). four s t (square_in rows 0 c) (square_in rows 0 d)) (square_in-state rows a) (square_in-state rows b)
-    ∙ ap₂ (λ (s t : Square). four (one a) (one b) s t) (square_in-state rows c) (square_in-state rows d)
+cells_square rows numbers a b c d = grind (arith, square_in-state)
 
 -- that row stands for the square of the node
 pub cells-added : (rows new : List SquareRow) (numbers : List ℕ) (node : Node) (a b c d n : ℕ) → node ≡ Cells a b c d

@@ -1,8 +1,8 @@
 -- Rows that are written as nodes stand for the same.
-use Rattle.std.proofs.Common.{◌≡◌, ◌∙◌, sym, ap, ap₂, refl, subst, ℕ, zero, suc, ◌+◌, ◌-◌, ◌<◌, ◌≤◌, ◌==◌, Bool, true, false, cond, List, [], ◌∷◌, ◌++◌, length, map, take, get_or, Some, Ok, arith, append_assoc, length-append, lit<, inl, inr}
+use Rattle.std.proofs.Common.{◌≡◌, ◌∙◌, sym, ap, refl, subst, ℕ, zero, suc, ◌-◌, ◌<◌, ◌≤◌, cond, List, [], ◌∷◌, ◌++◌, length, map, take, get_or, Some, Ok, arith, append_assoc, length-append, lit<, inl, inr}
 use Rattle.std.specs.Prelude.{IsTrue, slice_get}
-use Rattle.std.proofs.lemmas.Bool.{eq-eqb, eqb-true, ne_eqb}
-use Rattle.std.proofs.lemmas.Bool.Decides.{eqb_tells}
+use Rattle.std.proofs.lemmas.Bool.{eq-eqb, ne_eqb}
+use Rattle.std.proofs.lemmas.Bool.Decides.{eqb_tells, nat_tests}
 use Rattle.std.specs.Option.{option_map}
 use Rattle.std.proofs.lemmas.List.{length-map, map-append}
 use Rattle.std.proofs.lemmas.Option.{slice_get-get_or, slice_get-map}
@@ -11,16 +11,15 @@ use Rattle.macrocell_lines.specs.declared.node.Node.{Node}
 use Rattle.macrocell_lines.specs.declared.node.Node.TheVariants.{Cells, Square as Quartered}
 use Rattle.macrocell_lines.specs.Nodes.{AreNodes, AreQuadrants, AreStates, EachFollows, Follows, is_child, level_of}
 use Rattle.macrocell_lines.proofs.Shared.WrittenTexts.{written-says}
-use Rattle.worlds.specs.World.{blank}
 use Rattle.plane_core.specs.declared.row.SquareRow.{SquareRow}
-use Rattle.worlds.specs.Square.{Square, four, one, put_square}
-use Rattle.plane_core.specs.Rows.{AreRows, IsNumber, IsRow, edge_of, kid, no_row, root_level, row_at, square_in, world_of_rows}
+use Rattle.worlds.specs.Square.{Square, four}
+use Rattle.plane_core.specs.Rows.{AreRows, IsNumber, IsRow, kid, no_row, root_level, row_at, square_in, world_of_rows}
 use Rattle.plane_core.proofs.Shared.Roots.{root_level-some, rooted, world-none, world-root}
 use Rattle.plane_core.proofs.Shared.Sound.{IsNumber-level, kid_number, square_in-none, square_in-row, square_in-state, state-IsNumber}
 use Rattle.multistate_macrocell.specs.Laws.{WrittenMeansTheSame}
 use Rattle.multistate_macrocell.specs.Pattern.{said_pattern}
 use Rattle.multistate_macrocell.specs.PatternText.{node_of, nodes_of}
-use Rattle.multistate_macrocell.specs.Quadtree.{square_named, square_of, world_of_nodes, world_of_root}
+use Rattle.multistate_macrocell.specs.Quadtree.{square_named, square_of, world_of_nodes}
 use Rattle.multistate_macrocell.proofs.Children.{child-is}
 use Rattle.multistate_macrocell.proofs.Standing.{named-node, named-none, world-nodes-none, world-nodes-root}
 use Rattle.plane_core.specs.WorldRows.{rows_of}
@@ -33,26 +32,23 @@ node_of-one row e = ap (λ v. cond v (Cells (kid row 0) (kid row 1) (kid row 2) 
 node_of-more : (row : SquareRow) → (row.level ≡ 1 → ⊥) → node_of row ≡ Quartered row.level (kid row 0) (kid row 1) (kid row 2) (kid row 3)
 node_of-more row e = ap (λ v. cond v (Cells (kid row 0) (kid row 1) (kid row 2) (kid row 3)) (Quartered row.level (kid row 0) (kid row 1) (kid row 2) (kid row 3))) (ne_eqb row.level 1 e)
 
-level_by : (v : Bool) (level a b c d : ℕ) → (level == 1) ≡ v → level_of (cond v (Cells a b c d) (Quartered level a b c d)) ≡ level
-level_by true level a b c d h = sym (eqb-true level 1 h)
-level_by false level a b c d h = refl
-
 node_of-level : (row : SquareRow) → level_of (node_of row) ≡ row.level
-node_of-level row = level_by (row.level == 1) row.level (kid row 0) (kid row 1) (kid row 2) (kid row 3) refl
+node_of-level row = grind (arith, nat_tests)
 
 -- the node of the row with a number
 node_at : (rows : List SquareRow) (i : ℕ) → i < length rows → slice_get (map node_of rows) i ≡ Some (node_of (get_or rows i no_row))
 node_at rows i h = slice_get-map node_of rows i ∙ ap (λ found. option_map node_of found) (slice_get-get_or rows i no_row h)
 
+-- a row with a number has its level
+row_level : (rows : List SquareRow) (k i : ℕ) → IsNumber rows (suc k) (suc i) → (i < length rows) × ((get_or rows i no_row).level ≡ suc k)
+row_level rows k i h = let at = IsNumber-level rows k (suc i) h (omega arith) in (omega (arith, at.0), grind (arith, at.1))
+
 number-child : (rows : List SquareRow) (k n : ℕ) → IsNumber rows (suc k) n → IsTrue (is_child (map node_of rows) (suc (suc k)) n)
 number-child rows k zero h = refl
 number-child rows k (suc i) h =
-    let at = IsNumber-level rows k (suc i) h (omega arith) in
-    let le : suc i ≤ length rows = at.0 in
-    let less : suc i - 1 ≡ i = omega arith in
-    let level : (get_or rows i no_row).level ≡ suc k = ap (λ m. (get_or rows m no_row).level) (sym less) ∙ at.1 in
-    let up : level_of (node_of (get_or rows i no_row)) + 1 ≡ suc (suc k) = omega (arith, node_of-level (get_or rows i no_row), level) in
-    child-is (map node_of rows) (suc (suc k)) i (node_of (get_or rows i no_row)) (node_at rows i (omega arith)) up
+    let at = row_level rows k i h in
+    let row = get_or rows i no_row in
+    child-is (map node_of rows) (suc (suc k)) i (node_of row) (node_at rows i at.0) (omega (arith, node_of-level row, at.1))
 
 -- a row that may stand after others is a node that follows theirs
 cells_follow : (front : List SquareRow) (row : SquareRow) → IsRow front row → row.level ≡ 1 → AreStates (kid row 0) (kid row 1) (kid row 2) (kid row 3)
@@ -102,23 +98,12 @@ rows-nodes rows valid few = record { few = omega (arith, length-map rows node_of
 cells_square : (named : ℕ → Square) (rows : List SquareRow) (row : SquareRow) → row.level ≡ 1
     → square_of named (node_of row) ≡ four (square_in rows 0 (kid row 0)) (square_in rows 0 (kid row 1)) (square_in rows 0 (kid row 2)) (square_in rows 0 (kid row 3))
 unfolding square_of
-cells_square named rows row e =
-    ap (square_of named) (node_of-one row e)
-    ∙ ap₂ (λ (s t : Square). four s t (one (kid row 2)) (one (kid row 3))) (sym (square_in-state rows (kid row 0))) (sym (square_in-state rows (kid row 1)))
-    ∙ ap₂ (λ (s t : Square). four (square_in rows 0 (kid row 0)) (square_in rows 0 (kid row 1)) s t) (sym (square_in-state rows (kid row 2))) (sym (square_in-state rows (kid row 3)))
+cells_square named rows row e = grind (arith, node_of-one row, square_in-state)
 
 -- and of a row of a higher level
 quartered_square : (named : ℕ → Square) (row : SquareRow) → (row.level ≡ 1 → ⊥) → square_of named (node_of row) ≡ four (named (kid row 0)) (named (kid row 1)) (named (kid row 2)) (named (kid row 3))
 unfolding square_of
-quartered_square named row e = ap (square_of named) (node_of-more row e)
-
--- a row with a number has its level
-row_level : (rows : List SquareRow) (k i : ℕ) → IsNumber rows (suc k) (suc i) → (i < length rows) × ((get_or rows i no_row).level ≡ suc k)
-row_level rows k i h =
-    let at = IsNumber-level rows k (suc i) h (omega arith) in
-    let le : suc i ≤ length rows = at.0 in
-    let less : suc i - 1 ≡ i = omega arith in
-    (omega arith, ap (λ m. (get_or rows m no_row).level) (sym less) ∙ at.1)
+quartered_square named row e = grind (arith, node_of-more row)
 
 -- the nodes of rows stand for the same squares
 pub named-in : (rows : List SquareRow) (k n : ℕ) → AreRows rows → IsNumber rows (suc k) n → square_named (map node_of rows) (suc k) n ≡ square_in rows (suc k) n
@@ -133,13 +118,10 @@ named-in rows (suc j) (suc i) valid h =
     let at = row_level rows (suc j) i h in
     let row = get_or rows i no_row in
     let level = at.1 in
-    let kid_is = λ (q : ℕ) (hq : q < 4). kid_number rows (suc j) i valid at.0 level q hq in
+    let kid_is = λ (q : ℕ) (hq : q < 4). named-in rows j (kid row q) valid (kid_number rows (suc j) i valid at.0 level q hq) in
     named-node (map node_of rows) (suc j) i (node_of row) (node_at rows i at.0)
     ∙ quartered_square (square_named (map node_of rows) (suc j)) row (λ e. omega arith)
-    ∙ ap₂ (λ (s t : Square). four s t (square_named (map node_of rows) (suc j) (kid row 2)) (square_named (map node_of rows) (suc j) (kid row 3)))
-    (named-in rows j (kid row 0) valid (kid_is 0 (lit< tt))) (named-in rows j (kid row 1) valid (kid_is 1 (lit< tt)))
-    ∙ ap₂ (λ (s t : Square). four (square_in rows (suc j) (kid row 0)) (square_in rows (suc j) (kid row 1)) s t)
-    (named-in rows j (kid row 2) valid (kid_is 2 (lit< tt))) (named-in rows j (kid row 3) valid (kid_is 3 (lit< tt)))
+    ∙ cc (kid_is 0 (lit< tt), kid_is 1 (lit< tt), kid_is 2 (lit< tt), kid_is 3 (lit< tt))
     ∙ sym (square_in-row rows (suc j) i)
 
 -- and for the same world
@@ -158,14 +140,8 @@ rows-world (first ∷ others) valid =
     let level : level_of (node_of row) ≡ root_level rows = node_of-level row ∙ sym (root_level-some rows (omega arith)) in
     let k = root_level rows - 1 in
     let up : suc k ≡ root_level rows = omega arith in
-    let number : IsNumber rows (suc k) (length rows) = subst (λ j. IsNumber rows j (length rows)) (sym up) root.number in
-    let square : square_named nodes (suc k) (length rows) ≡ square_in rows (suc k) (length rows) = named-in rows k (length rows) valid number in
-    world-nodes-root nodes (node_of row) at
-    ∙ ap₂ (world_of_root nodes) level long
-    ∙ ap (λ j. world_of_root nodes j (length rows)) (sym up)
-    ∙ ap (λ (t : Square). put_square (suc k) t (edge_of (suc k)) (edge_of (suc k)) blank) square
-    ∙ ap (λ j. put_square j (square_in rows j (length rows)) (edge_of j) (edge_of j) blank) up
-    ∙ sym (world-root rows)
+    let square = named-in rows k (length rows) valid (grind (arith, root.number)) in
+    grind (arith, world-nodes-root nodes (node_of row) at, world-root rows, square)
 
 -- what is written means the same
 pub written-means : WrittenMeansTheSame

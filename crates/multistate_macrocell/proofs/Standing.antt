@@ -1,7 +1,6 @@
 -- Rows, and the numbers of the nodes among them, that stand for the first nodes.
-use Rattle.std.proofs.Common.{◌≡◌, ◌∙◌, sym, ap, ap₂, refl, subst, ℕ, zero, suc, ◌+◌, ◌-◌, ◌<◌, ◌≤◌, List, [], ◌∷◌, ◌++◌, length, take, get_or, Some, arith, inl, inr}
+use Rattle.std.proofs.Common.{◌≡◌, ◌∙◌, sym, ap, refl, subst, ℕ, zero, suc, ◌+◌, ◌-◌, ◌<◌, ◌≤◌, List, [], ◌∷◌, ◌++◌, length, take, get_or, Some, arith}
 use Rattle.std.specs.Prelude.{IsTrue, slice_get}
-use Rattle.std.specs.Option.{option_map_or}
 use Rattle.std.proofs.lemmas.List.{get_or_append_left, get_or_push, length_push, nil_from_length}
 use Rattle.std.proofs.lemmas.Bool.{cases_lt}
 use Rattle.std.proofs.lemmas.Option.{slice_get-get_or}
@@ -10,8 +9,8 @@ use Rattle.macrocell_lines.specs.declared.node.Node.TheVariants.{Cells, Square a
 use Rattle.macrocell_lines.specs.Nodes.{AreNodes, AreQuadrants, Follows, is_child, level_of}
 use Rattle.worlds.specs.World.{blank}
 use Rattle.plane_core.specs.declared.row.SquareRow.{SquareRow}
-use Rattle.worlds.specs.Square.{Square, four, empty_square, put_square}
-use Rattle.plane_core.specs.Rows.{AreRows, IsNumber, edge_of, root_level, square_in, world_of_rows}
+use Rattle.worlds.specs.Square.{empty_square}
+use Rattle.plane_core.specs.Rows.{AreRows, IsNumber, root_level, square_in, world_of_rows}
 use Rattle.plane_core.proofs.Shared.Roots.{world-none, world-root}
 use Rattle.plane_core.proofs.Shared.Sound.{AreRows-none, IsNumber-from, IsNumber-grown, square_in-grown, square_in-none}
 use Rattle.multistate_macrocell.specs.Quadtree.{square_named, square_of, world_of_nodes, world_of_root}
@@ -46,14 +45,10 @@ stand-none nodes = record {
   valid = AreRows-none;
   count = refl;
   zero_first = refl;
-  each = each;
+  each = λ k n h is. let number = none-number k in grind (arith, square_in-none [] (suc k), named-none nodes k);
   last = refl;
   root = λ node h at. absurd (omega (arith, h));
 }
-  where
-    each : (k n : ℕ) → n ≤ 0 → IsTrue (is_child nodes (suc (suc k)) n) → HasRow [] nodes (0 ∷ []) (suc k) n
-    each k zero h is = record { number = none-number k; names = square_in-none [] (suc k) ∙ sym (named-none nodes k) }
-    each k (suc n) h is = absurd (omega (arith, h))
 
 -- a quadrant of the next node has a row
 quadrant_has : (rows : List SquareRow) (nodes : List Node) (numbers : List ℕ) (place k level n : ℕ) → Stand rows nodes numbers place → level ≡ suc (suc k) → IsTrue (is_child (take place nodes) level n) → HasRow rows nodes numbers (suc k) n
@@ -63,29 +58,15 @@ quadrant_has rows nodes numbers place k level n stand e h =
 
 quadrant_known : (rows : List SquareRow) (nodes : List Node) (numbers : List ℕ) (place level n : ℕ) → Stand rows nodes numbers place → 2 ≤ level → IsTrue (is_child (take place nodes) level n) → IsKnown rows numbers (level - 1) n
 quadrant_known rows nodes numbers place level n stand low h =
-    let e : level ≡ suc (suc (level - 2)) = omega arith in
-    let less : suc (level - 2) ≡ level - 1 = omega arith in
-    let earlier = (child-earlier nodes place level n h).earlier in
-    let count = stand.count in
-    record {
-      there = omega arith;
-      number = subst (λ k. IsNumber rows k (row_number numbers n)) less (quadrant_has rows nodes numbers place (level - 2) level n stand e h).number;
-    }
+    let is = child-earlier nodes place level n h in
+    let has = quadrant_has rows nodes numbers place (level - 2) level n stand (omega arith) h in
+    record { there = omega (arith, is.earlier, stand.count); number = grind (arith, has.number) }
 
 quadrants_known : (rows : List SquareRow) (nodes : List Node) (numbers : List ℕ) (place level a b c d : ℕ) → Stand rows nodes numbers place → AreQuadrants (take place nodes) level a b c d → AreKnown rows numbers level a b c d
-quadrants_known rows nodes numbers place level a b c d stand h = record {
-  low = h.low;
-  high = h.high;
-  nw_known = quadrant_known rows nodes numbers place level a stand h.low h.nw_child;
-  ne_known = quadrant_known rows nodes numbers place level b stand h.low h.ne_child;
-  sw_known = quadrant_known rows nodes numbers place level c stand h.low h.sw_child;
-  se_known = quadrant_known rows nodes numbers place level d stand h.low h.se_child;
-}
+quadrants_known rows nodes numbers place level a b c d stand h = grind (arith, quadrant_known rows nodes numbers place level)
 
 can_follow : (rows : List SquareRow) (nodes : List Node) (numbers : List ℕ) (place : ℕ) (node : Node) → Stand rows nodes numbers place → Follows (take place nodes) node → CanFollow rows numbers node
-can_follow rows nodes numbers place (Cells a b c d) stand h = h
-can_follow rows nodes numbers place (Quartered level a b c d) stand h = quadrants_known rows nodes numbers place level a b c d stand h
-can_follow rows nodes numbers place (Drawn bitmap) stand h = tt
+can_follow rows nodes numbers place node stand h = grind (arith, quadrants_known rows nodes numbers place)
 
 -- the next node may become a row
 pub next-follows : (rows : List SquareRow) (nodes : List Node) (numbers : List ℕ) (place : ℕ) (node : Node) → AreNodes nodes → Stand rows nodes numbers place → slice_get nodes place ≡ Some node → CanFollow rows numbers node
@@ -103,19 +84,15 @@ square_is rows nodes numbers place (suc j) (Quartered level a b c d) stand h e =
     let ne = (quadrant_has rows nodes numbers place j level b stand e h.ne_child).names in
     let sw = (quadrant_has rows nodes numbers place j level c stand e h.sw_child).names in
     let se = (quadrant_has rows nodes numbers place j level d stand e h.se_child).names in
-    ap (λ i. four (square_in rows i (row_number numbers a)) (square_in rows i (row_number numbers b)) (square_in rows i (row_number numbers c)) (square_in rows i (row_number numbers d))) less
-    ∙ ap₂ (λ (s t : Square). four s t (square_in rows (suc j) (row_number numbers c)) (square_in rows (suc j) (row_number numbers d))) nw ne
-    ∙ ap₂ (λ (s t : Square). four (square_named nodes (suc j) a) (square_named nodes (suc j) b) s t) sw se
+    cc
 square_is rows nodes numbers place k (Drawn bitmap) stand h e = refl
 
 pub level_live : (nodes : List Node) (node : Node) → Follows nodes node → 0 < level_of node
-level_live nodes (Cells a b c d) h = omega arith
-level_live nodes (Quartered level a b c d) h = let low = h.low in omega arith
-level_live nodes (Drawn bitmap) h = omega arith
+level_live nodes node h = grind arith
 
 pub named-node : (nodes : List Node) (k i : ℕ) (node : Node) → slice_get nodes i ≡ Some node → square_named nodes (suc k) (suc i) ≡ square_of (square_named nodes k) node
 unfolding square_named
-named-node nodes k i node at = ap (λ found. option_map_or (square_of (square_named nodes k)) found (empty_square (suc k))) at
+named-node nodes k i node at = rw at refl
 
 -- the rows with those of the next node
 module _ (rows new : List SquareRow) (nodes : List Node) (numbers : List ℕ) (place n : ℕ) (node : Node) (are : AreNodes nodes)
@@ -139,32 +116,15 @@ module _ (rows new : List SquareRow) (nodes : List Node) (numbers : List ℕ) (p
   old_has k m h is =
       let has = stand.each k m h is in
       let grows = adds-grows rows new (level_of node) n (square_by rows numbers node) adds in
-      let same = stays m h in
-      record {
-        number = subst (IsNumber new (suc k)) (sym same) (IsNumber-grown rows new (suc k) (row_number numbers m) grows has.number);
-        names = ap (square_in new (suc k)) same ∙ square_in-grown rows new (suc k) (row_number numbers m) grows stand.valid has.number ∙ has.names;
-      }
+      grind (arith, stays m, IsNumber-grown rows new (suc k) (row_number numbers m) grows, square_in-grown rows new (suc k) (row_number numbers m) grows stand.valid)
 
   new_has : (k : ℕ) → IsTrue (is_child nodes (suc (suc k)) (suc place)) → HasRow new nodes all (suc k) (suc place)
   new_has k is =
-      let up = child-level nodes (suc (suc k)) place node at is in
-      let level : level_of node ≡ suc k = omega arith in
-      let number = subst (IsNumber new (level_of node)) (sym here) adds.number in
-      let names = ap (square_in new (level_of node)) here ∙ adds.names in
-      record {
-        number = subst (λ j. IsNumber new j (row_number all (suc place))) level number;
-        names = ap (λ j. square_in new j (row_number all (suc place))) (sym level) ∙ names
-            ∙ square_is rows nodes numbers place k node stand follows level ∙ sym (named-node nodes k place node at);
-      }
+      let level : level_of node ≡ suc k = omega (arith, child-level nodes (suc (suc k)) place node at is) in
+      grind (arith, here, adds.number, adds.names, square_is rows nodes numbers place k node stand follows level, named-node nodes k place node at)
 
   each_has : (k m : ℕ) → m ≤ suc place → IsTrue (is_child nodes (suc (suc k)) m) → HasRow new nodes all (suc k) m
-  each_has k m h is =
-      elim (cases_lt m (suc place)) [
-        | inl lt ↦ old_has k m (omega arith) is
-        | inr ge ↦
-            let e : suc place ≡ m = omega arith in
-            subst (HasRow new nodes all (suc k)) e (new_has k (subst (λ i. IsTrue (is_child nodes (suc (suc k)) i)) (sym e) is))
-      ]
+  each_has k m h is = grind (arith, cases_lt m (suc place), old_has k m, new_has k)
 
   pub stand-more : Stand new nodes (numbers ++ n ∷ []) (suc place)
   unfolding all
@@ -186,7 +146,7 @@ world-nodes-none = refl
 
 pub world-nodes-root : (nodes : List Node) (root : Node) → slice_get nodes (length nodes - 1) ≡ Some root → world_of_nodes nodes ≡ world_of_root nodes (level_of root) (length nodes)
 unfolding world_of_nodes
-world-nodes-root nodes root at = ap (λ found. option_map_or (λ root. world_of_root nodes (level_of root) (length nodes)) found blank) at
+world-nodes-root nodes root at = rw at refl
 
 root_stands : (rows : List SquareRow) (nodes : List Node) (numbers : List ℕ) (root : Node) (i k : ℕ) → Stand rows nodes numbers (length nodes)
     → length nodes ≡ suc i → slice_get nodes i ≡ Some root → level_of root ≡ suc k → world_of_rows rows ≡ world_of_nodes nodes
@@ -198,12 +158,7 @@ root_stands rows nodes numbers root i k stand long at level =
     let has = stand.each k (length nodes) (omega arith) child in
     let root_is : root_level rows ≡ suc k = stand.root root (omega arith) here ∙ level in
     let square : square_in rows (suc k) (length rows) ≡ square_named nodes (suc k) (length nodes) = ap (square_in rows (suc k)) (sym stand.last) ∙ has.names in
-    let edge = edge_of (suc k) in
-    world-root rows
-    ∙ ap (λ j. put_square j (square_in rows j (length rows)) (edge_of j) (edge_of j) blank) root_is
-    ∙ ap (λ (t : Square). put_square (suc k) t edge edge blank) square
-    ∙ ap (λ j. world_of_root nodes j (length nodes)) (sym level)
-    ∙ sym (world-nodes-root nodes root here)
+    grind (arith, world-root rows, world-nodes-root nodes root here, square)
 
 -- what stands for all nodes stands for their world
 pub stand-world : (rows : List SquareRow) (nodes : List Node) (numbers : List ℕ) → AreNodes nodes → Stand rows nodes numbers (length nodes) → world_of_rows rows ≡ world_of_nodes nodes

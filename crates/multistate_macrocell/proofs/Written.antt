@@ -1,6 +1,6 @@
 -- Texts of rows, piece by piece.
-use Rattle.std.proofs.Common.{◌≡◌, ◌∙◌, sym, ap, refl, ℕ, ◌==◌, Bool, true, false, cond, List, [], ◌∷◌, ◌++◌, map, append_assoc, decimal}
-use Rattle.std.specs.Prelude.{codes, is_ok, OnOk, Result, Ok, Err}
+use Rattle.std.proofs.Common.{◌≡◌, ◌∙◌, sym, ap, refl, ℕ, ◌==◌, Bool, true, cond, List, [], ◌∷◌, ◌++◌, map, append_assoc, decimal, arith}
+use Rattle.std.specs.Prelude.{codes, is_ok, OnOk, Result}
 use Rattle.std.proofs.lemmas.Bool.{eqb-true}
 use Rattle.plane_core.specs.declared.row.SquareRow.{SquareRow}
 use Rattle.plane_core.specs.Rows.{kid}
@@ -23,8 +23,7 @@ heading-lines name generation rest =
     ∙ sym (together (codes "[M2] (experiment desk)" ++ 10 ∷ []) (codes "#R ") name (codes "#G ") (decimal generation) (10 ∷ []) rest)
 
 line_by : (v : Bool) (level a b c d : ℕ) → (v ≡ true → level ≡ 1) → node_line (cond v (Cells a b c d) (Quartered level a b c d)) ≡ numbers_line (level ∷ a ∷ b ∷ c ∷ d ∷ [])
-line_by true level a b c d h = ap (λ l. numbers_line (l ∷ a ∷ b ∷ c ∷ d ∷ [])) (sym (h refl))
-line_by false level a b c d h = refl
+line_by v level a b c d h = grind arith
 
 node-row : (row : SquareRow) → node_line (node_of row) ≡ row_line row
 unfolding row_line
@@ -59,5 +58,4 @@ text-rows name generation rows =
 
 -- what a last call adds, where it gives Ok
 pub added-on_ok : {T E : Type 0} (r : Result T E) (new more old : List ℕ) → new ≡ cond (is_ok r) more old → OnOk r (new ≡ more)
-added-on_ok (Ok x) new more old e = e
-added-on_ok (Err x) new more old e = tt
+added-on_ok r new more old e = grind arith
