@@ -57,8 +57,7 @@ adds-row rows new row n valid is grown count =
       last = λ h. refl;
       root = λ h. root_level-some all (omega arith) ∙ ap (λ (r : SquareRow). r.level) at;
     } in
-    let there : Adds rows new row.level (length new) (square_of_row rows row) = subst (λ (rs : List SquareRow). Adds rows rs row.level (length rs) (square_of_row rows row)) (sym grown) here in
-    subst (λ m. Adds rows new row.level m (square_of_row rows row)) (sym count) there
+    rw (count, grown) here
 
 -- four squares of a level, added one behind another
 pub record AddsFour (r0 r1 r2 r3 r4 : List SquareRow) (k a b c d : ℕ) (nw ne sw se : Square) : Type 0 where
@@ -90,12 +89,7 @@ module _ (r0 r1 r2 r3 r4 : List SquareRow) (k a b c d : ℕ) (nw ne sw se : Squa
   -- the row of the four may stand behind them
   pub four-row : (level : ℕ) → level ≡ suc k → level ≤ 62 → IsRow r4 (row_of level a b c d)
   four-row level e high =
-      let less : k ≡ level - 1 = omega arith in
-      record {
-        low = omega arith;
-        high = high;
-        kids = λ q h. subst (λ j. IsNumber r4 j (kid (row_of level a b c d) q)) less (number_kid level q e h);
-      }
+      record { low = omega arith; high = high; kids = λ q h. let number = number_kid level q e h in grind (arith, e) }
 
   -- and stands for the square of the four
   pub four-square : (level : ℕ) → level ≡ suc k → square_of_row r4 (row_of level a b c d) ≡ four nw ne sw se

@@ -1,8 +1,8 @@
 -- The quadrants of a node are earlier nodes.
-use Rattle.std.proofs.Common.{◌≡◌, ◌∙◌, sym, ap, refl, subst, ℕ, zero, suc, ◌+◌, ◌-◌, ◌<◌, ◌≤◌, ◌==◌, Bool, true, false, cond, List, [], ◌∷◌, ◌++◌, length, take, Option, Some, None, arith, append_assoc, append-nil, length-take}
+use Rattle.std.proofs.Common.{◌≡◌, ◌∙◌, sym, ap, refl, ℕ, zero, suc, ◌+◌, ◌<◌, ◌≤◌, ◌==◌, Bool, true, false, List, [], ◌∷◌, ◌++◌, length, take, Option, Some, None, arith, append_assoc, append-nil, length-take}
 use Rattle.std.specs.Prelude.{IsTrue, slice_get}
 use Rattle.std.specs.Option.{option_map_or}
-use Rattle.std.proofs.Math.Dec.{eqb-suc-zero}
+use Rattle.std.proofs.lemmas.Bool.Decides.{nat_tests}
 use Rattle.std.proofs.lemmas.Bool.{eqb-true, eq-eqb}
 use Rattle.std.proofs.lemmas.List.{get_or-take}
 use Rattle.std.proofs.lemmas.Option.{get_or_from_slice_get, slice_get-get_or, slice_get_within}
@@ -18,10 +18,7 @@ found_node level None h = absurd (cc)
 found_node level (Some node) h = (node, refl)
 
 child-suc : (nodes : List Node) (level i : ℕ) → is_child nodes level (suc i) ≡ fits_under level (slice_get nodes i)
-child-suc nodes level i =
-    let other : (suc i == 0) ≡ false = eqb-suc-zero i in
-    let less : suc i - 1 ≡ i = omega arith in
-    ap (λ b. cond b true (fits_under level (slice_get nodes (suc i - 1)))) other ∙ ap (λ j. fits_under level (slice_get nodes j)) less
+child-suc nodes level i = grind (arith, nat_tests)
 
 -- the level of a node that is a quadrant
 pub child-level : (nodes : List Node) (level i : ℕ) (node : Node) → slice_get nodes i ≡ Some node → IsTrue (is_child nodes level (suc i)) → level_of node + 1 ≡ level
@@ -67,6 +64,6 @@ pub follows-at : (front nodes : List Node) (i : ℕ) (node : Node) → EachFollo
 follows-at front [] i node each at = absurd (cc)
 follows-at front (first ∷ nodes) zero node each at =
     let is : first ≡ node = cc in
-    subst (λ (n : Node). Follows (front ++ []) n) is (subst (λ (f : List Node). Follows f first) (sym (append-nil front)) each.0)
+    rw (append-nil front, ← is) each.0
 follows-at front (first ∷ nodes) (suc i) node each at =
-    subst (λ (f : List Node). Follows f node) (append_assoc front (first ∷ []) (take i nodes)) (follows-at (front ++ first ∷ []) nodes i node each.1 at)
+    rw append_assoc at (follows-at (front ++ first ∷ []) nodes i node each.1 at)

@@ -1,5 +1,5 @@
 -- The cells of the world of nodes.
-use Rattle.std.proofs.Common.{◌≡◌, ◌∙◌, sym, ap, refl, subst, ℕ, zero, suc, ◌+◌, ◌-◌, ◌<◌, ◌^◌, Bool, cond, List, [], length, take, Some, arith, pos, ◌+ℤ◌}
+use Rattle.std.proofs.Common.{◌≡◌, ◌∙◌, sym, refl, subst, ℕ, zero, suc, ◌+◌, ◌-◌, ◌<◌, ◌^◌, Bool, cond, List, [], length, take, Some, arith, pos, ◌+ℤ◌}
 use Rattle.std.specs.Prelude.{IsTrue, slice_get}
 use Rattle.std.proofs.lemmas.Option.{slice_get_within}
 use Rattle.macrocell_lines.specs.declared.bitmap.Bitmap.{Bitmap}
@@ -7,7 +7,7 @@ use Rattle.macrocell_lines.specs.declared.node.Node.{Node}
 use Rattle.macrocell_lines.specs.declared.node.Node.TheVariants.{Cells, Square as Quartered, Bitmap as Drawn}
 use Rattle.macrocell_lines.specs.Bitmaps.{is_live}
 use Rattle.macrocell_lines.specs.Nodes.{AreNodes, Follows, is_child, level_of}
-use Rattle.worlds.specs.World.{World, blank, cell, cell-blank}
+use Rattle.worlds.specs.World.{World, blank, cell-blank}
 use Rattle.worlds.specs.Square.{IsSquare, Square, empty_square, put_square}
 use Rattle.plane_core.specs.Rows.{edge_of}
 use Rattle.plane_core.proofs.Shared.Cells.{IsSquare-empty, IsSquare-one, IsSquare-parts, put_square-inside, put_square-outside}
@@ -45,33 +45,26 @@ named-IsSquare : (nodes : List Node) (k n : ℕ) → AreNodes nodes → IsTrue (
 named-IsSquare nodes k zero are h = subst (IsSquare (suc k)) (sym (named-none nodes k)) (IsSquare-empty (suc k))
 named-IsSquare nodes zero (suc i) are h =
     let found = child-found nodes 2 i h in
-    let up = child-level nodes 2 i found.0 found.1 h in
-    let level : level_of found.0 ≡ 1 = omega arith in
-    subst (IsSquare 1) (sym (named-node nodes 0 i found.0 found.1))
+    let level : level_of found.0 ≡ 1 = omega (arith, child-level nodes 2 i found.0 found.1 h) in
+    rw (named-node nodes 0 i found.0 found.1)
     (node_square (square_named nodes 0) (take i nodes) 0 found.0 (follows-at [] nodes i found.0 are.each found.1) level
     (λ m is. subst (IsSquare 0) (sym (named-ground nodes m)) (IsSquare-empty 0)))
 named-IsSquare nodes (suc j) (suc i) are h =
     let found = child-found nodes (suc (suc (suc j))) i h in
-    let up = child-level nodes (suc (suc (suc j))) i found.0 found.1 h in
-    let level : level_of found.0 ≡ suc (suc j) = omega arith in
-    subst (IsSquare (suc (suc j))) (sym (named-node nodes (suc j) i found.0 found.1))
+    let level : level_of found.0 ≡ suc (suc j) = omega (arith, child-level nodes (suc (suc (suc j))) i found.0 found.1 h) in
+    rw (named-node nodes (suc j) i found.0 found.1)
     (node_square (square_named nodes (suc j)) (take i nodes) (suc j) found.0 (follows-at [] nodes i found.0 are.each found.1) level
     (λ m is. named-IsSquare nodes j m are (child-earlier nodes i (suc (suc j)) m is).child))
 
 shows_root : (w : World) (k : ℕ) (t : Square) → IsSquare k t → w ≡ put_square k t (edge_of k) (edge_of k) blank → ShowsRoot w k t
 shows_root w k t is e = record {
-  inside = λ i j hi hj.
-      ap (λ v. cell v (edge_of k +ℤ pos i) (edge_of k +ℤ pos j)) e
-      ∙ put_square-inside k t (edge_of k) (edge_of k) blank (edge_of k +ℤ pos i) (edge_of k +ℤ pos j) i j is refl refl hi hj;
-  outside = λ x y out.
-      ap (λ v. cell v x y) e ∙ put_square-outside k t (edge_of k) (edge_of k) blank x y is out ∙ cell-blank x y;
+  inside = λ i j hi hj. rw e (put_square-inside k t (edge_of k) (edge_of k) blank (edge_of k +ℤ pos i) (edge_of k +ℤ pos j) i j is refl refl hi hj);
+  outside = λ x y out. rw e (put_square-outside k t (edge_of k) (edge_of k) blank x y is out ∙ cell-blank x y);
 }
 
 root_square : (nodes : List Node) (root : Node) (i k : ℕ) → AreNodes nodes → length nodes ≡ suc i → slice_get nodes i ≡ Some root → level_of root ≡ suc k → IsSquare (level_of root) (square_named nodes (level_of root) (length nodes))
 root_square nodes root i k are long at level =
-    let up : level_of root + 1 ≡ suc (suc k) = omega arith in
-    let child : IsTrue (is_child nodes (suc (suc k)) (length nodes)) = subst (λ n. IsTrue (is_child nodes (suc (suc k)) n)) (sym long) (child-is nodes (suc (suc k)) i root at up) in
-    subst (λ j. IsSquare j (square_named nodes j (length nodes))) (sym level) (named-IsSquare nodes k (length nodes) are child)
+    let is = named-IsSquare nodes k (length nodes) are (rw long (child-is nodes (suc (suc k)) i root at (omega (arith, level)))) in rw level is
 
 -- the world of nodes shows the square of the root
 pub nodes-show : NodesShowTheirRoot

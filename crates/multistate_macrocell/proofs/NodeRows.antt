@@ -1,11 +1,10 @@
 -- The row of a node stands for its square.
-use Rattle.std.proofs.Common.{◌≡◌, sym, subst, ℕ, zero, suc, ◌<◌, List, arith}
+use Rattle.std.proofs.Common.{◌≡◌, subst, ℕ, zero, suc, ◌<◌, List, arith}
 use Rattle.macrocell_lines.specs.declared.bitmap.Bitmap.{Bitmap}
 use Rattle.macrocell_lines.specs.declared.node.Node.{Node}
 use Rattle.macrocell_lines.specs.declared.node.Node.TheVariants.{Cells, Square as Quartered, Bitmap as Drawn}
 use Rattle.macrocell_lines.specs.Nodes.{AreStates, level_of}
 use Rattle.plane_core.specs.declared.row.SquareRow.{SquareRow}
-use Rattle.worlds.specs.Square.{Square}
 use Rattle.plane_core.specs.Rows.{IsNumber, IsRow, kid}
 use Rattle.plane_core.proofs.Shared.Sound.{IsNumber-state, row_of, square_in-state}
 use Rattle.multistate_macrocell.specs.Quadtree.{drawn, square_of}
@@ -29,23 +28,19 @@ cells_square rows numbers a b c d = grind (arith, square_in-state)
 -- that row stands for the square of the node
 pub cells-added : (rows new : List SquareRow) (numbers : List ℕ) (node : Node) (a b c d n : ℕ) → node ≡ Cells a b c d
     → Adds rows new 1 n (square_of_row rows (row_of 1 a b c d)) → Adds rows new (level_of node) n (square_by rows numbers node)
-cells-added rows new numbers node a b c d n is adds =
-    subst (λ (v : Node). Adds rows new (level_of v) n (square_by rows numbers v)) (sym is)
-    (subst (λ (t : Square). Adds rows new 1 n t) (cells_square rows numbers a b c d) adds)
+cells-added rows new numbers node a b c d n is adds = rw is (rw (cells_square rows numbers a b c d) at adds)
 
 -- that row stands for the square of the node
 pub quartered-added : (rows new : List SquareRow) (numbers : List ℕ) (node : Node) (level a b c d n : ℕ) → node ≡ Quartered level a b c d
     → Adds rows new level n (square_of_row rows (row_of level (row_number numbers a) (row_number numbers b) (row_number numbers c) (row_number numbers d)))
     → Adds rows new (level_of node) n (square_by rows numbers node)
 unfolding square_of
-quartered-added rows new numbers node level a b c d n is adds =
-    subst (λ (v : Node). Adds rows new (level_of v) n (square_by rows numbers v)) (sym is) adds
+quartered-added rows new numbers node level a b c d n is adds = rw is adds
 
 -- and the last of the rows of a bitmap for the bitmap's
 pub drawn-added : (rows new : List SquareRow) (numbers : List ℕ) (node : Node) (bitmap : Bitmap) (n : ℕ) → node ≡ Drawn bitmap → Adds rows new 3 n (drawn bitmap 3 0 0) → Adds rows new (level_of node) n (square_by rows numbers node)
 unfolding square_of
-drawn-added rows new numbers node bitmap n is adds =
-    subst (λ (v : Node). Adds rows new (level_of v) n (square_by rows numbers v)) (sym is) adds
+drawn-added rows new numbers node bitmap n is adds = rw is adds
 
 -- what is asked of a node, by its kind
 pub cells-asked : (rows : List SquareRow) (numbers : List ℕ) (node : Node) (a b c d : ℕ) → node ≡ Cells a b c d → CanFollow rows numbers node → AreStates a b c d

@@ -1,5 +1,5 @@
 -- Rows, and the numbers of the nodes among them, that stand for the first nodes.
-use Rattle.std.proofs.Common.{◌≡◌, ◌∙◌, sym, ap, refl, subst, ℕ, zero, suc, ◌+◌, ◌-◌, ◌<◌, ◌≤◌, List, [], ◌∷◌, ◌++◌, length, take, get_or, Some, arith}
+use Rattle.std.proofs.Common.{◌≡◌, ◌∙◌, sym, ap, refl, subst, ℕ, zero, suc, ◌-◌, ◌<◌, ◌≤◌, List, [], ◌∷◌, ◌++◌, length, take, get_or, Some, arith}
 use Rattle.std.specs.Prelude.{IsTrue, slice_get}
 use Rattle.std.proofs.lemmas.List.{get_or_append_left, get_or_push, length_push, nil_from_length}
 use Rattle.std.proofs.lemmas.Bool.{cases_lt}
@@ -134,10 +134,7 @@ module _ (rows new : List SquareRow) (nodes : List Node) (numbers : List ℕ) (p
     zero_first = stays 0 (omega arith) ∙ stand.zero_first;
     each = each_has;
     last = here ∙ adds.last (level_live (take place nodes) node follows);
-    root = λ other h is.
-        let less : suc place - 1 ≡ place = omega arith in
-        let same : Some node ≡ Some other = sym at ∙ ap (slice_get nodes) (sym less) ∙ is in
-        adds.root (level_live (take place nodes) node follows) ∙ (let e : node ≡ other = cc in ap level_of e);
+    root = λ other h is. grind (arith, adds.root (level_live (take place nodes) node follows));
   }
 
 pub world-nodes-none : world_of_nodes [] ≡ blank
@@ -151,14 +148,10 @@ world-nodes-root nodes root at = rw at refl
 root_stands : (rows : List SquareRow) (nodes : List Node) (numbers : List ℕ) (root : Node) (i k : ℕ) → Stand rows nodes numbers (length nodes)
     → length nodes ≡ suc i → slice_get nodes i ≡ Some root → level_of root ≡ suc k → world_of_rows rows ≡ world_of_nodes nodes
 root_stands rows nodes numbers root i k stand long at level =
-    let less : length nodes - 1 ≡ i = omega arith in
-    let here : slice_get nodes (length nodes - 1) ≡ Some root = ap (slice_get nodes) less ∙ at in
-    let up : level_of root + 1 ≡ suc (suc k) = omega arith in
-    let child : IsTrue (is_child nodes (suc (suc k)) (length nodes)) = subst (λ n. IsTrue (is_child nodes (suc (suc k)) n)) (sym long) (child-is nodes (suc (suc k)) i root at up) in
-    let has = stand.each k (length nodes) (omega arith) child in
-    let root_is : root_level rows ≡ suc k = stand.root root (omega arith) here ∙ level in
-    let square : square_in rows (suc k) (length rows) ≡ square_named nodes (suc k) (length nodes) = ap (square_in rows (suc k)) (sym stand.last) ∙ has.names in
-    grind (arith, world-root rows, world-nodes-root nodes root here, square)
+    let here : slice_get nodes (length nodes - 1) ≡ Some root = grind arith in
+    let child = child-is nodes (suc (suc k)) i root at (omega (arith, level)) in
+    let has = stand.each k (length nodes) (omega arith) (rw long child) in
+    grind (arith, world-root rows, world-nodes-root nodes root here, has.names, stand.last, stand.root root (omega arith) here)
 
 -- what stands for all nodes stands for their world
 pub stand-world : (rows : List SquareRow) (nodes : List Node) (numbers : List ℕ) → AreNodes nodes → Stand rows nodes numbers (length nodes) → world_of_rows rows ≡ world_of_nodes nodes

@@ -48,7 +48,7 @@ row_line-joined old row = joined old (decimal row.level) (decimal (kid row 0)) (
 
 nodes-rows : (rows : List SquareRow) → map node_line (map node_of rows) ≡ map row_line rows
 nodes-rows [] = refl
-nodes-rows (row ∷ rows) = ap (λ line. line ∷ map node_line (map node_of rows)) (node-row row) ∙ ap (λ lines. row_line row ∷ lines) (nodes-rows rows)
+nodes-rows (row ∷ rows) = grind (arith, node-row, nodes-rows rows)
 
 -- the text of rows, by their lines
 pub text-rows : (name : List ℕ) (generation : ℕ) (rows : List SquareRow) → heading_text name generation ++ row_lines rows ≡ written_text name generation (nodes_of rows)
