@@ -24,12 +24,7 @@ pub returns-in-Some-clause-most : goal.returns-in-Some-clause-most
 returns-in-Some-clause-most c = λ top few margin.
     let side : c.side-side.result ≡ 2 ^ 61 = c.side-side.ensures.value ∙ ap (λ k. 2 ^ k) top in
     let box = (HasMargin-box c.args.generations c.in-Some.bounds c.args.plane.now c.in-Some.ensures.some).1 margin in
-    c.lies_within.ensures.1 (record {
-      left = (let k = box.left in omega (arith, ints));
-      right = (let k = box.right in omega (arith, ints));
-      top = (let k = box.top in omega (arith, ints));
-      bottom = (let k = box.bottom in omega (arith, ints));
-    })
+    c.lies_within.ensures.1 (omega (arith, ints))
 
 pub returns-then-generations-side-clause-only : goal.returns-then-generations-side-clause-only
 returns-then-generations-side-clause-only c = λ room. let few = room.few in absurd (omega (arith, few, c.if-generations-side.true, c.side-side.ensures.value))
