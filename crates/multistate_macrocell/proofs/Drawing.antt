@@ -1,5 +1,5 @@
 -- The square that a bitmap draws, by its quadrants.
-use Rattle.std.proofs.Common.{◌≡◌, ℕ, zero, suc, ◌+◌, ◌*◌, ◌<◌, ◌≤◌, ◌^◌, Bool, true, false, cond, sym, ap, ◌∙◌, arith, pow-suc}
+use Rattle.std.proofs.Common.{◌≡◌, ℕ, zero, suc, ◌+◌, ◌*◌, ◌<◌, ◌≤◌, ◌^◌, Bool, cond, sym, ap, ◌∙◌, arith, pow-suc}
 use mir.Val.{bool_byte}
 use Rattle.macrocell_lines.specs.declared.bitmap.Bitmap.{Bitmap}
 use Rattle.macrocell_lines.specs.Bitmaps.{is_live}
@@ -24,8 +24,8 @@ pub record FitsHalves (k x h : ℕ) : Type 0 where
   pub near : x + 2 ^ k ≤ 8
   pub far : (x + h) + 2 ^ k ≤ 8
 
-pub halves : (level k x h : ℕ) → level ≡ suc k → h ≡ 2 ^ k → x + 2 ^ level ≤ 8 → FitsHalves k x h
-halves level k x h e is fits =
+pub halves : {level k x h : ℕ} → level ≡ suc k → h ≡ 2 ^ k → x + 2 ^ level ≤ 8 → FitsHalves k x h
+halves {level} {k} e is fits =
     let double : 2 ^ level ≡ 2 ^ k * 2 = ap (λ j. 2 ^ j) e ∙ pow-suc 2 k in
     record { near = omega arith; far = omega arith }
 
@@ -35,5 +35,4 @@ pub record IsSmallCell (live : Bool) (n : ℕ) : Type 0 where
   pub is : n ≡ cond live 1 0
 
 pub cell-small : (live : Bool) (n : ℕ) → n ≡ bool_byte live → IsSmallCell live n
-cell-small true n e = record { below = omega arith; is = e }
-cell-small false n e = record { below = omega arith; is = e }
+cell-small live n e = grind arith

@@ -1,5 +1,5 @@
 -- The row of a node stands for its square.
-use Rattle.std.proofs.Common.{◌≡◌, subst, ℕ, zero, suc, ◌<◌, List, arith}
+use Rattle.std.proofs.Common.{◌≡◌, ℕ, zero, suc, ◌<◌, List, arith}
 use Rattle.macrocell_lines.specs.declared.bitmap.Bitmap.{Bitmap}
 use Rattle.macrocell_lines.specs.declared.node.Node.{Node}
 use Rattle.macrocell_lines.specs.declared.node.Node.TheVariants.{Cells, Square as Quartered, Bitmap as Drawn}
@@ -44,4 +44,4 @@ drawn-added rows new numbers node bitmap n is adds = rw is adds
 
 -- what is asked of a node, by its kind
 pub cells-asked : (rows : List SquareRow) (numbers : List ℕ) (node : Node) (a b c d : ℕ) → node ≡ Cells a b c d → CanFollow rows numbers node → AreStates a b c d
-cells-asked rows numbers node a b c d is h = subst (CanFollow rows numbers) is h
+cells-asked rows numbers node a b c d is h = rw is at h

@@ -17,33 +17,29 @@ returns-then-level-eq0 t c =
 pub push_bitmap-requires : goal.push_bitmap-requires
 push_bitmap-requires t c =
     let up : c.args.level ≡ suc (c.args.level - 1) = omega arith in
-    let h = c.side-half.result in
-    let across = halves c.args.level (c.args.level - 1) c.args.x h up c.side-half.ensures.value c.requires.column in
-    let down = halves c.args.level (c.args.level - 1) c.args.y h up c.side-half.ensures.value c.requires.row in
+    let across = halves up c.side-half.ensures.value c.requires.column in
+    let down = halves up c.side-half.ensures.value c.requires.row in
     (omega arith, (c.requires.rows, (omega arith, (across.near, down.near))))
 
 pub push_bitmap-requires-2 : goal.push_bitmap-requires-2
 push_bitmap-requires-2 t c =
     let up : c.args.level ≡ suc (c.args.level - 1) = omega arith in
-    let h = c.side-half.result in
-    let across = halves c.args.level (c.args.level - 1) c.args.x h up c.side-half.ensures.value c.requires.column in
-    let down = halves c.args.level (c.args.level - 1) c.args.y h up c.side-half.ensures.value c.requires.row in
+    let across = halves up c.side-half.ensures.value c.requires.column in
+    let down = halves up c.side-half.ensures.value c.requires.row in
     (omega arith, (c.in_ok-nw.ensures.valid, (omega arith, (across.far, down.near))))
 
 pub push_bitmap-requires-3 : goal.push_bitmap-requires-3
 push_bitmap-requires-3 t c =
     let up : c.args.level ≡ suc (c.args.level - 1) = omega arith in
-    let h = c.side-half.result in
-    let across = halves c.args.level (c.args.level - 1) c.args.x h up c.side-half.ensures.value c.requires.column in
-    let down = halves c.args.level (c.args.level - 1) c.args.y h up c.side-half.ensures.value c.requires.row in
+    let across = halves up c.side-half.ensures.value c.requires.column in
+    let down = halves up c.side-half.ensures.value c.requires.row in
     (omega arith, (c.in_ok-ne.ensures.valid, (omega arith, (across.near, down.far))))
 
 pub push_bitmap-requires-4 : goal.push_bitmap-requires-4
 push_bitmap-requires-4 t c =
     let up : c.args.level ≡ suc (c.args.level - 1) = omega arith in
-    let h = c.side-half.result in
-    let across = halves c.args.level (c.args.level - 1) c.args.x h up c.side-half.ensures.value c.requires.column in
-    let down = halves c.args.level (c.args.level - 1) c.args.y h up c.side-half.ensures.value c.requires.row in
+    let across = halves up c.side-half.ensures.value c.requires.column in
+    let down = halves up c.side-half.ensures.value c.requires.row in
     (omega arith, (c.in_ok-sw.ensures.valid, (omega arith, (across.far, down.far))))
 
 pub push_row-requires-clause-row : goal.push_row-requires-clause-row

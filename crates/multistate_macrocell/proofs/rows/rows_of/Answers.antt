@@ -1,10 +1,7 @@
-use Rattle.std.proofs.Common.{◌≡◌, ◌∷◌, ◌+◌, ℕ, suc, List, [], length, get_or, Some, sym, subst, arith, rules}
+use Rattle.std.proofs.Common.{◌≡◌, ◌∷◌, [], length, get_or, Some, add-one, subst, arith, rules}
 use Rattle.std.specs.Prelude.{slice_get}
 use Rattle.std.proofs.lemmas.Option.{slice_get-get_or}
 use Rattle.macrocell_lines.specs.declared.node.Node.TheVariants.{Cells}
-use Rattle.macrocell_lines.specs.Nodes.{level_of}
-use Rattle.plane_core.specs.declared.row.SquareRow.{SquareRow}
-use Rattle.multistate_macrocell.specs.Tables.{Adds, CanFollow, square_by}
 use Rattle.multistate_macrocell.proofs.Standing.{Stand, next-follows, stand-more, stand-none, stand-world}
 use Rattle.multistate_macrocell.proofs.rows.rows_of.Goals as goal
 
@@ -12,8 +9,7 @@ pub loop-node-init : goal.loop-node-init
 loop-node-init c =
     let numbers : c.push.new.self.items ≡ 0 ∷ [] = search rules in
     let rows : c.new-rows.result.items ≡ [] = search rules in
-    subst (λ (ns : List ℕ). Stand c.new-rows.result.items c.args.nodes.now ns 0) (sym numbers)
-    (subst (λ (rs : List SquareRow). Stand rs c.args.nodes.now (0 ∷ []) 0) (sym rows) (stand-none c.args.nodes.now))
+    rw (numbers, rows) (stand-none c.args.nodes.now)
 
 pub loop-node-preserved : goal.loop-node-preserved
 loop-node-preserved c =
@@ -25,10 +21,8 @@ loop-node-preserved c =
     let number = c.in_ok-number.number in
     let node = get_or nodes place (Cells 0 0 0 0) in
     let at : slice_get nodes place ≡ Some node = slice_get-get_or nodes place (Cells 0 0 0 0) c.loop-node-test.true in
-    let adds : Adds rows new (level_of node) number (square_by rows numbers node) = subst (λ (ns : List ℕ). Adds rows new (level_of node) number (square_by rows ns node)) c.deref.ensures.value c.in_ok-number.ensures in
-    let more = stand-more rows new nodes numbers place number node c.requires c.loop-node.invariant at adds in
-    let step : suc place ≡ place + 1 = omega arith in
-    subst (λ (ns : List ℕ). Stand new nodes ns (place + 1)) (sym c.in_ok-push-2.ensures.items) (subst (Stand new nodes _) step more)
+    let more = stand-more rows new nodes numbers place number node c.requires c.loop-node.invariant at (rw c.deref.ensures.value at c.in_ok-number.ensures) in
+    rw (c.in_ok-push-2.ensures.items, add-one) more
 
 pub push_node-requires-clause-rows : goal.push_node-requires-clause-rows
 push_node-requires-clause-rows c = c.loop-node.invariant.valid
@@ -40,7 +34,7 @@ push_node-requires-clause-node c =
     let rows = c.loop-node.rows.items in
     let node = get_or nodes place (Cells 0 0 0 0) in
     let at : slice_get nodes place ≡ Some node = slice_get-get_or nodes place (Cells 0 0 0 0) c.loop-node-test.true in
-    subst (λ (ns : List ℕ). CanFollow rows ns node) (sym c.deref.ensures.value) (next-follows rows nodes c.loop-node.numbers.items place node c.requires c.loop-node.invariant at)
+    rw c.deref.ensures.value (next-follows rows nodes c.loop-node.numbers.items place node c.requires c.loop-node.invariant at)
 
 pub returns-clause-rows : goal.returns-clause-rows
 returns-clause-rows c = c.loop-node.invariant.valid
