@@ -3,7 +3,7 @@ use Rattle.std.proofs.Common.{◌≡◌, ◌≢◌, ◌⊎◌, ◌∙◌, ◌++�
 use Rattle.std.specs.Prelude.{All, MatchResult, fold, if◌then◌else◌}
 use Rattle.std.specs.List.{slice_index_or}
 use Rattle.std.specs.Str.{bytes_eq}
-use Rattle.std.specs.Str.Parse.{IsNumeral, digits_value, without_leading_plus}
+use Rattle.std.specs.Str.Parse.{digits_value, without_leading_plus}
 use Rattle.std.proofs.lemmas.Bool.{cases_Bool}
 use Rattle.std.proofs.lemmas.List.Elements.{All-tail}
 use Rattle.std.proofs.lemmas.Slice.Eq.{bytes_eq-Decides}
@@ -218,22 +218,18 @@ absent t (choice ∷ choices) rows others =
     absent t choices (rows ++ row_for choice ∷ []) (All-tail (λ other. option_of other ≢ id_of t) choice choices others)
     ∙ push_other choice t rows (names_other (option_of choice) (id_of t) (others 0 choice (omega arith)))
 
-told_next : (t : Named) (choice : Choice) (choices : List Choice) (rows : List Row) → has_row (option_of choice) rows ≡ false → All (λ other. option_of other ≢ option_of choice) choices
-    → (told t (rows ++ row_for choice ∷ []) ≡ told t rows → told t (rows_by choices (rows ++ row_for choice ∷ [])) ≡ Some (text_by t choices))
-    → (option_of choice ≡ id_of t) ⊎ (bytes_eq (option_of choice) (id_of t) ≡ false) → told t (rows_by choices (rows ++ row_for choice ∷ [])) ≡ Some (text_by t (choice ∷ choices))
-unfolding text_by
-told_next t choice choices rows now others rest (inl same) =
-    let gone = absent t choices (rows ++ row_for choice ∷ []) (subst (λ n. All (λ other. option_of other ≢ n) choices) same others) in
-    grind (arith, bytes_eq-Decides (option_of choice) (id_of t), push_this choice t rows same now)
-told_next t choice choices rows now others rest (inr other) = grind (arith, push_other choice t rows other)
-
 told_by : (t : Named) (choices : List Choice) (rows : List Row) → AreOnce choices → AreFresh rows choices → told t rows ≡ Some (usual_for t) → told t (rows_by choices rows) ≡ Some (text_by t choices)
 unfolding text_by
 told_by t [] rows once fresh usual = usual
 told_by t (choice ∷ choices) rows once fresh usual =
-    told_next t choice choices rows (fresh 0 choice (omega arith)) once.0
-    (λ still. told_by t choices (rows ++ row_for choice ∷ []) once.1 (still_fresh choice choices rows once.0 (All-tail (λ c. has_row (option_of c) rows ≡ false) choice choices fresh)) (still ∙ usual))
-    (same_or_not (option_of choice) (id_of t))
+    let more = rows ++ row_for choice ∷ [] in
+    let now = fresh 0 choice (omega arith) in
+    let later = still_fresh choice choices rows once.0 (All-tail (λ c. has_row (option_of c) rows ≡ false) choice choices fresh) in
+    elim (same_or_not (option_of choice) (id_of t)) [
+      | inl same ↦ absent t choices more (subst (λ n. All (λ other. option_of other ≢ n) choices) same once.0) ∙ push_this choice t rows same now
+          ∙ ap (λ b. Some (if b then text_for choice else text_by t choices)) (sym ((bytes_eq-Decides (option_of choice) (id_of t)).1 same))
+      | inr other ↦ told_by t choices more once.1 later (push_other choice t rows other ∙ usual) ∙ ap (λ b. Some (if b then text_for choice else text_by t choices)) (sym other)
+    ]
 
 -- a setting's number among the options
 number_in : Setting → Options → ℕ
@@ -255,10 +251,6 @@ progress_kept s n options = grind arith
 abbrev value_of : Text → ℕ
 value_of text = digits_value 10 (without_leading_plus text)
 
-value_next : (t : Setting) (digits : Text) (choices : List Choice) → IsNumeral 10 digits → value_of (text_by (number t) choices) ≡ number_in t (chosen_by choices)
-    → (b : Bool) → value_of (if b then digits else text_by (number t) choices) ≡ (if b then digits_value 10 digits else number_in t (chosen_by choices))
-value_next t digits choices order rest b = grind (arith, no_plus)
-
 no_flag : (t : Setting) → bytes_eq progress_name (name_of t) ≡ false
 no_flag t = grind arith
 
@@ -269,11 +261,10 @@ value_by : (t : Setting) (choices : List Choice) → All IsInOrder choices → v
 unfolding text_by number_in
 value_by t [] orders = grind arith
 value_by t (numbered s digits apart ∷ choices) orders =
-    value_next t digits choices (orders 0 (numbered s digits apart) (omega arith)).0 (value_by t choices (All-tail IsInOrder (numbered s digits apart) choices orders)) (bytes_eq (name_of s) (name_of t))
-    ∙ sym (number_with s t (digits_value 10 digits) (chosen_by choices))
-value_by t (progress ∷ choices) orders =
-    ap (λ b. value_of (if b then codes "true" else text_by (number t) choices)) (no_flag t)
-    ∙ value_by t choices (All-tail IsInOrder progress choices orders) ∙ sym (number_kept t (chosen_by choices))
+    let rest = value_by t choices (All-tail IsInOrder (numbered s digits apart) choices orders) in
+    let order = (orders 0 (numbered s digits apart) (omega arith)).0 in
+    grind (arith, no_plus digits order, number_with s t (digits_value 10 digits) (chosen_by choices))
+value_by t (progress ∷ choices) orders = grind (arith, value_by t choices (All-tail IsInOrder progress choices orders), no_flag t, number_kept t)
 
 -- the text for progress is `true` where it is chosen, and `false` where it isn't
 told_flag : Bool → Text
@@ -284,14 +275,12 @@ flag_by : (choices : List Choice) → text_by flag choices ≡ told_flag (chosen
 unfolding text_by told_flag
 flag_by [] = refl
 flag_by (numbered s digits apart ∷ choices) =
-    ap (λ b. if b then digits else text_by flag choices) (flag_no s) ∙ flag_by choices
-    ∙ ap told_flag (sym (progress_kept s (digits_value 10 digits) (chosen_by choices)))
+    grind (arith, flag_no s, flag_by choices, progress_kept s (digits_value 10 digits) (chosen_by choices))
 flag_by (progress ∷ choices) = refl
 
 asked_end : (words : List Text) (choices : List Choice) → AsksWith choices words → Ends words (rows_by choices []) [] None
 asked_end words choices asks =
-    subst (λ ws. Ends ws (rows_by choices []) [] None) (sym asks.spelled)
-    (choices_end choices [] [] None (record { settles = refl; are = refl }) asks.numbers asks.once (λ k d low. refl))
+    rw asks.spelled (choices_end choices [] [] None (record { settles = refl; are = refl }) asks.numbers asks.once (λ k d low. refl))
 
 text_asked : (t : Named) (words : List Text) (choices : List Choice) → AsksWith choices words → one_of (id_of t) (matches_of desk words) ≡ Some (text_by t choices)
 unfolding told

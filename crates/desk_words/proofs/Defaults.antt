@@ -6,7 +6,8 @@ use Rattle.std.specs.Prelude.{find, option_map, slice_get}
 use Rattle.std.specs.Borrow.{Bor}
 use Rattle.std.proofs.lemmas.Slice.Eq.{bytes_eq-Decides}
 use Rattle.std.proofs.lemmas.List.Elements.{All-get_or}
-use Rattle.clap.specs.Facts.{args_of, groups_of, AllowsNone, Entry, EntryPasses, EntryValuesPass, HasReading, IsCountArg, IsFilledEntry, IsGroupEntry, PassesArg, ReadsByParser, ValuesPass, WantsDefault, least_values, parser_of, parser_of_value}
+use Rattle.clap.specs.Facts.{args_of, groups_of, AllowsNone, Entry, EntryPasses, EntryValuesPass}
+use Rattle.clap.specs.Facts.{HasReading, IsCountArg, IsFilledEntry, IsGroupEntry, PassesArg, ReadsByParser, ValuesPass, WantsDefault, least_values, parser_of, parser_of_value}
 use Rattle.clap.specs.Built.{IsAuto, IsParsedFrom, IsPlain, SameRules}
 use Rattle.clap.specs.Matches.{found_of, matched_of, one_text}
 use Rattle.clap.specs.Values.{Accepts, read_as, reading_of}
@@ -85,11 +86,7 @@ entry_gives built f a q e rules groups named set delim least parser found key pa
     let lack : AllowsNone built e.0.now → ⊥ = λ h. no_lack built a rules set delim least (subst (AllowsNone built) key h) in
     let some = filled_of built e group count lack pass.1 in
     let how = reads_as built a q e.1.reading rules parser (subst (λ (w : List ℕ). HasReading built w e.1.reading) key (reading_at built e group pass.4)) in
-    finish (first_read (λ v. PassesArg built e.0.now v.now) (reading_of q) e.1.vals.items all some) how
-  where
-    finish : ((v : Bor (List ℕ)) × (option_map (λ s. read_as (reading_of q) s.now) (slice_get e.1.vals.items 0) ≡ Some (read_as (reading_of q) v.now)) × PassesArg built e.0.now v.now)
-        → e.1.reading ≡ reading_of q → (t : List ℕ) × (one_text f a.id.now ≡ Some (read_as (reading_of q) t)) × Accepts a.ignore_case q t
-    finish first how = (
+    let first = first_read (λ v. PassesArg built e.0.now v.now) (reading_of q) e.1.vals.items all some in (
       first.0.now,
       text_of f a.id.now e.1 (reading_of q) (read_as (reading_of q) first.0.now) found how first.1,
       accepted built a q first.0.now rules parser (subst (λ (w : List ℕ). PassesArg built w first.0.now) key first.2),

@@ -3,7 +3,7 @@ use Rattle.std.proofs.Common.{◌≡◌, ◌∙◌, ◌<◌, ◌≤◌, ◌∷�
 use Rattle.std.specs.List.{All, slice_index_or}
 use Rattle.std.specs.Str.{bytes_eq}
 use Rattle.std.proofs.lemmas.List.Elements.{All-nil}
-use Rattle.clap.specs.Facts.{args_of, groups_of, WantsDefault, least_values, unwrap_or_range}
+use Rattle.clap.specs.Facts.{args_of, groups_of, WantsDefault, least_values}
 use Rattle.clap.specs.Built.{AddsArg, IsAuto, IsPlain, IsPlainArg, SameRules}
 use Rattle.clap.specs.Matches.{found_of, one_text}
 use Rattle.clap.proofs.CallerLemmas.{added_plain}
@@ -29,17 +29,7 @@ record IsArgOf (setting : Setting) (x : Arg) : Type 0 where
   parser : x.value_parser ≡ Some (Unsigned (least_of setting) (most_of setting))
 
 arg_of : (setting : Setting) (a x : Arg) → IsOptionOf setting a → SameRules a x → IsArgOf setting x
-arg_of setting a x is same =
-    let set : a.action ≡ Some Set = ap (λ (r : Rule). r.action) is.rule in
-    let least : least_values a ≡ 1 = ap (λ (r : Rule). (unwrap_or_range r.range).start_inclusive) is.rule in
-    record {
-      id = ap (λ i. i.now) same.id ∙ ap (λ (r : Rule). r.id) is.rule;
-      wants = (same.ifs ∙ is.wanted.0, rw (same.defaults is.wanted.1) is.wanted.1);
-      set = same.action Set set;
-      delim = same.val_delim ∙ is.whole;
-      least = same.least set (omega (arith, least));
-      parser = same.parser (Unsigned (least_of setting) (most_of setting)) (ap (λ (r : Rule). r.parser) is.rule);
-    }
+arg_of setting a x is same = grind (arith, same.action Set, same.least, same.defaults, same.parser (Unsigned (least_of setting) (most_of setting)))
 
 -- the list of the command's arguments: one for each setting, in this order, and that for progress
 record HasSettings (xs : List Arg) : Type 0 where
@@ -121,12 +111,9 @@ pub always_gives : (start one two three four : Command) (a b c d : Arg) → IsBa
     → IsOptionOf Workers a → IsOptionOf Facts b → IsOptionOf Squares c → IsProgress d → AlwaysGives four
 always_gives start one two three four a b c d bare first second third fourth is-a is-b is-c is-d =
     let start-plain : IsPlain start = (subst (All IsPlainArg) (sym bare.args) (All-nil IsPlainArg), bare.groups) in
-    let one-plain = added_plain start one a first start-plain is-a.plain in
-    let two-plain = added_plain one two b second one-plain is-b.plain in
-    let three-plain = added_plain two three c third two-plain is-c.plain in
-    let four-plain = added_plain three four d fourth three-plain is-d.plain in
-    let one-local = still_local start one a first bare.globals is-a.own in
-    let two-local = still_local one two b second one-local is-b.own in
+    let two-plain = added_plain one two b second (added_plain start one a first start-plain is-a.plain) is-b.plain in
+    let four-plain = added_plain three four d fourth (added_plain two three c third two-plain is-c.plain) is-d.plain in
+    let two-local = still_local one two b second (still_local start one a first bare.globals is-a.own) is-b.own in
     let three-local = still_local two three c third two-local is-c.own in
     let list : args_of four ≡ first.arg ∷ second.arg ∷ third.arg ∷ fourth.arg ∷ [] = grind (arith, first.args, second.args, third.args, fourth.args, bare.args) in
     has_number four (record {
