@@ -1,7 +1,7 @@
 -- Places in a window, and the cells whose states are set in its list.
 use Rattle.std.proofs.Common.{◌≡◌, ◌≢◌, ◌∙◌, sym, ap, ap₂, refl, subst, ℕ, ◌+◌, ◌<◌, ◌≤◌, ◌^◌, true, false, cond, List, [], ◌∷◌, ◌++◌, length, take, get_or, set, get_or-set_same, get_or-set_other, ℤ, pos, ◌+ℤ◌, ◌-ℤ◌, ◌≤ℤ◌, inl, inr, SFits, w64, to_z, of_z, arith}
 use Rattle.std.specs.Prelude.{All, unsigned_abs, IsTrue, ◌&&◌, ◌*◌, nat_lt, nat_le, int_le, neg_ℤ}
-use Rattle.std.proofs.lemmas.Bool.{cases_lt, cond-true, cond-false, cond_both, false_from_ne_true, and_parts, leb-true}
+use Rattle.std.proofs.lemmas.Bool.{cases_lt, cond_both, and_parts, leb-true}
 use Rattle.std.proofs.lemmas.Int.{ints, fits_signed_from_abs, to_z-of_z}
 use Rattle.std.proofs.Math.Nat.{mul-le-mul_left}
 use Rattle.std.proofs.lemmas.List.{take_more}
@@ -72,19 +72,15 @@ same_place_of left top x y i j x' y' across down h =
 pub is_in : (left top : ℤ) (width height size : ℕ) (b : Bounds) (c : Cell) → size ≡ width * height → b.left ≡ left → b.top ≡ top → (b.right +ℤ pos 1) ≡ left +ℤ pos width → (b.bottom +ℤ pos 1) ≡ top +ℤ pos height
     → IsInBox b c.x c.y → IsIn left top width size c
 is_in left top width height size b c sized l t r d inside =
-    let from_left = inside.left in
-    let to_right = inside.right in
-    let from_top = inside.top in
-    let to_bottom = inside.bottom in
     let column = unsigned_abs (c.x -ℤ left) in
     let row = unsigned_abs (c.y -ℤ top) in
-    let narrow : column < width = omega (arith, ints, l, r, from_left, to_right) in
-    let low : row < height = omega (arith, ints, t, d, from_top, to_bottom) in
+    let narrow : column < width = omega (arith, ints, l, r, inside.left, inside.right) in
+    let low : row < height = omega (arith, ints, t, d, inside.top, inside.bottom) in
     record {
       column = column;
       row = row;
-      across = omega (arith, ints, l, from_left);
-      down = omega (arith, ints, t, from_top);
+      across = omega (arith, ints, l, inside.left);
+      down = omega (arith, ints, t, inside.top);
       narrow = narrow;
       listed = subst (λ n. row * width + column < n) (sym sized) (number_below width height column row narrow low);
     }
@@ -130,10 +126,7 @@ shown-set states after cs k n d left top width size i j below sized across down 
           let k = sym yes ∙ e in cc in
           get_or-set_other states n (y * width + x) c.state 0 other ∙ shown x y inside held
     ] refl in
-    ap (λ l. get_or l (y * width + x) 0) is
-    ∙ here
-    ∙ sym (last-push (take k cs) c X Y 0)
-    ∙ ap (λ ds. last_state ds X Y 0) (sym (take_more cs k d below))
+    grind (arith, here, last-push (take k cs) c X Y 0, take_more cs k d below)
 
 count-more : (x y : ℤ) (c : Cell) (cs : List Cell) → count_at x y (c ∷ cs) ≡ cond (same_place (y, x) (c.y, c.x)) 1 0 + count_at x y cs
 count-more x y c cs = sum_by-cons (λ (c : Cell). cond (same_place (y, x) (c.y, c.x)) 1 0) c cs
@@ -141,10 +134,7 @@ count-more x y c cs = sum_by-cons (λ (c : Cell). cond (same_place (y, x) (c.y, 
 last-none : (cs : List Cell) (x y : ℤ) (s : ℕ) → count_at x y cs ≡ 0 → last_state cs x y s ≡ s
 last-none [] x y s h = refl
 last-none (c ∷ cs) x y s h =
-    let sum = sym (count-more x y c cs) ∙ h in
-    let other : same_place (y, x) (c.y, c.x) ≡ false = false_from_ne_true (same_place (y, x) (c.y, c.x)) (λ e. let one = cond-true {A = ℕ} (same_place (y, x) (c.y, c.x)) 1 0 e in omega (arith, one, sum)) in
-    let rest : count_at x y cs ≡ 0 = omega (arith, sum) in
-    last-none cs x y (cond (same_place (y, x) (c.y, c.x)) c.state s) rest ∙ cond-false (same_place (y, x) (c.y, c.x)) c.state s other
+    grind (arith, count-more x y c cs, last-none cs x y)
 
 module _ (b : Bounds) (w : World) (x y : ℤ) where
   here : (c : Cell) → IsLiveWithin b w c → same_place (y, x) (c.y, c.x) ≡ true → c.state ≡ cell w x y
@@ -159,20 +149,10 @@ module _ (b : Bounds) (w : World) (x y : ℤ) where
   last-some : (cs : List Cell) (s : ℕ) → All (IsLiveWithin b w) cs → 0 < count_at x y cs → last_state cs x y s ≡ cell w x y
   last-some [] s h some = absurd (omega (arith, some))
   last-some (c ∷ cs) s h some =
-      elim (same_place (y, x) (c.y, c.x)) as (λ t. same_place (y, x) (c.y, c.x) ≡ t → last_state cs x y (cond t c.state s) ≡ cell w x y) [
-        | true ↦ λ e. last-kept cs c.state (All-tail (IsLiveWithin b w) c cs h) (here c (All-head (IsLiveWithin b w) c cs h) e)
-        | false ↦ λ e.
-            let sum = count-more x y c cs in
-            let none = cond-false {A = ℕ} (same_place (y, x) (c.y, c.x)) 1 0 e in
-            last-some cs s (All-tail (IsLiveWithin b w) c cs h) (omega (arith, some, sum, none))
-      ] refl
+      let first = here c (All-head (IsLiveWithin b w) c cs h) in
+      let others = All-tail (IsLiveWithin b w) c cs h in
+      grind (arith, count-more x y c cs, last-kept cs c.state others, last-some cs s others)
 
   -- the cells of a world within a box give each place in it its state
   pub last-within : (cs : List Cell) → AreLiveWithin b w cs → IsInBox b x y → last_state cs x y 0 ≡ cell w x y
-  last-within cs h inside =
-      elim (cases_lt 0 (count_at x y cs)) [
-        | inl some ↦ last-some cs 0 h.each some
-        | inr none ↦
-            let dead : 0 < cell w x y → ⊥ = λ live. let once = h.once x y inside live in omega (arith, once, none) in
-            last-none cs x y 0 (omega (arith, none)) ∙ (let zero_state : 0 ≡ cell w x y = omega (arith, dead) in zero_state)
-      ]
+  last-within cs h inside = grind (arith, cases_lt 0 (count_at x y cs), last-some cs 0 h.each, last-none cs x y 0, h.once x y inside)
