@@ -13,11 +13,7 @@ use Rattle.decision_tree.proofs.Following.{root-kept}
 use Rattle.decision_tree.proofs.Shared.KeptNodes.{entries-nodes_of}
 
 pub tree-kept : (head : TreeHead) (depths entries : List ℕ) (root : ℕ) → length depths ≡ root + 1 → tree_from head (nodes_of head.states depths entries) ≡ tree_of_kept head.states head.neighbors root entries
-tree-kept head depths entries root whole =
-    ap (λ nodes. tree_with head nodes) (entries-nodes_of head.states depths entries ∙ ap (λ k. nodes_in head.states k entries) whole)
-  where
-    tree_with : TreeHead → List (List ℕ) → Tree
-    tree_with head nodes = record { states = head.states; neighbors = head.neighbors; nodes = nodes }
+tree-kept head depths entries root whole = rw (entries-nodes_of head.states depths entries, whole)
 
 pub if_quiescent-no : (tree : Tree) → next tree nine_zeros ≢ 0 → if_quiescent tree ≡ Err NotQuiescent
 if_quiescent-no tree restless = grind (arith, nat_tests)

@@ -1,18 +1,12 @@
 -- The faults of a tree's head, of which none is 'out of memory'.
-use Rattle.std.proofs.Common.{ℕ, List, [], ◌∷◌, Option, Some, None, Result, Ok, arith}
+use Rattle.std.proofs.Common.{ℕ, List, [], ◌∷◌, Option, Ok, arith}
 use Rattle.std.specs.Option.{option_map_or, ok_or}
 use Rattle.basics.specs.Results.{◌>>=◌}
-use Rattle.rule_file.specs.declared.fault.RuleFault.{RuleFault}
 use Rattle.rule_file.specs.declared.fault.RuleFault.TheVariants.{BadTree}
 use Rattle.rule_file.proofs.Shared.Readings.{WantsNone}
 use Rattle.rule_file.specs.RuleFile.{NumberedLine}
 use Rattle.decision_tree.specs.declared.descriptors.Descriptor.{Descriptor}
-use Rattle.decision_tree.specs.declared.descriptors.TreeHead.{TreeHead}
 use Rattle.decision_tree.specs.TreeLines.{Described, describe, descriptor_of, head_from, head_of}
-
--- a line that isn't what a tree has there isn't 'out of memory'
-some-none : {A B : Type 0} (o : Option A) (number : ℕ) (f : A → Result B RuleFault) → ((x : A) → WantsNone (f x)) → WantsNone (ok_or o (BadTree number) >>= f)
-some-none o number f rest h = grind (arith, rest)
 
 pub head_from-none : (last : ℕ) (d : Described) (lines : List NumberedLine) → WantsNone (head_from last d lines)
 head_from-none last d [] = λ h. absurd cc
@@ -21,5 +15,4 @@ head_from-none last d (line ∷ lines) = by (descriptor_of line.text) (λ e. hea
     by : (o : Option (Descriptor × List ℕ)) → ((e : Described) → WantsNone (head_from last e lines))
         → WantsNone (option_map_or (λ x. ok_or (describe d x.0 x.1) (BadTree line.number) >>= λ e. head_from last e lines) o
         (ok_or (head_of d) (BadTree line.number) >>= λ head. Ok (head, line ∷ lines)))
-    by None rest = some-none (head_of d) line.number (λ (head : TreeHead). Ok (head, line ∷ lines)) (λ head h. absurd cc)
-    by (Some x) rest = some-none (describe d x.0 x.1) line.number (λ e. head_from last e lines) rest
+    by o rest h = grind (arith, rest)

@@ -1,16 +1,15 @@
 -- Numbers that are kept up to 2^32 - 1, and the node that a line says.
-use Rattle.std.proofs.Common.{◌≡◌, ◌≢◌, ℕ, Bool, true, false, cond, List, [], ◌∷◌, ◌++◌, length, map, nat_lt, Option, Some, None, option_and_then, Result, Ok, Err, refl, sym, ◌∙◌, arith}
+use Rattle.std.proofs.Common.{◌≡◌, ℕ, Bool, true, false, cond, List, [], ◌∷◌, ◌++◌, map, nat_lt, Option, Some, None, option_and_then, Result, refl, sym, ◌∙◌, arith}
 use Rattle.std.proofs.lemmas.Bool.Decides.{nat_tests}
 use Rattle.std.specs.List.{list_all}
 use Rattle.std.specs.Option.{option_map, ok_or}
 use Rattle.rule_file.specs.declared.fault.RuleFault.{RuleFault}
 use Rattle.rule_file.specs.declared.fault.RuleFault.TheVariants.{BadTree}
-use Rattle.rule_file.specs.RuleFile.{NumberedLine}
 use Rattle.decision_tree.specs.declared.descriptors.TreeHead.{TreeHead}
 use Rattle.decision_tree.specs.Kept.{AreKept, IsTreeHead, nodes_of, saturated}
-use Rattle.decision_tree.specs.TreeLines.{Node, is_next, node_from, nodes_from, numbers_in, with_line, words}
+use Rattle.decision_tree.specs.TreeLines.{Node, is_next, node_from}
 use Rattle.decision_tree.proofs.Shared.Growing.{is_next-node, depth-low, entries-low}
-use Rattle.decision_tree.proofs.Shared.KeptNodes.{depths-nodes_of, length-nodes_of}
+use Rattle.decision_tree.proofs.Shared.KeptNodes.{depths-nodes_of}
 
 -- small numbers are kept as they are
 all-small : (ns : List ℕ) → list_all (λ n. nat_lt n 4294967295) ns ≡ true → map saturated ns ≡ ns
@@ -48,13 +47,11 @@ same-said head depths entries n ns limits kept h =
 next-kept : (head : TreeHead) (depths entries : List ℕ) (n : ℕ) (ns : List ℕ) → IsTreeHead head → AreKept head depths entries
     → is_next head depths (record { depth = saturated n; entries = map saturated ns }) ≡ is_next head depths (record { depth = n; entries = ns })
 next-kept head depths entries n ns limits kept =
-    by (is_next head depths (record { depth = saturated n; entries = map saturated ns })) (is_next head depths (record { depth = n; entries = ns })) refl refl
+    by _ _ (λ h. let same = same-kept head depths entries n ns limits kept h in rw (same.first, same.rest))
+    (λ k. let same = same-said head depths entries n ns limits kept k in rw (same.first, same.rest))
   where
-    by : (a b : Bool) → is_next head depths (record { depth = saturated n; entries = map saturated ns }) ≡ a → is_next head depths (record { depth = n; entries = ns }) ≡ b
-        → is_next head depths (record { depth = saturated n; entries = map saturated ns }) ≡ is_next head depths (record { depth = n; entries = ns })
-    by true b h k = let same = same-kept head depths entries n ns limits kept h in rw (same.first, same.rest)
-    by false true h k = let same = same-said head depths entries n ns limits kept k in rw (same.first, same.rest)
-    by false false h k = h ∙ sym k
+    by : (a b : Bool) → (a ≡ true → a ≡ b) → (b ≡ true → a ≡ b) → a ≡ b
+    by a b f g = grind (arith, f, g)
 
 -- nodes with one more, where it is the next
 abbrev if_next : List Node → ℕ → Node → Bool → Result (List Node) RuleFault
@@ -66,7 +63,8 @@ with_numbers head nodes number read = ok_or (option_map (λ node. nodes ++ node 
     (option_and_then (λ numbers. option_and_then (λ node. cond (is_next head (map (λ n. n.depth) nodes) node) (Some node) None) (node_from numbers))
     read)) (BadTree number)
 
-with_kept : (head : TreeHead) (depths entries : List ℕ) (number : ℕ) (read : Option (List ℕ)) (depth : ℕ) (node : List ℕ) → IsTreeHead head
+-- a line whose numbers are the next node, as they are kept, or aren't
+pub with_kept : (head : TreeHead) (depths entries : List ℕ) (number : ℕ) (read : Option (List ℕ)) (depth : ℕ) (node : List ℕ) → IsTreeHead head
     → AreKept head depths entries → Some (depth ∷ node) ≡ option_map (map saturated) read → (b : Bool)
     → is_next head depths (record { depth = depth; entries = node }) ≡ b
     → with_numbers head (nodes_of head.states depths entries) number read ≡ if_next (nodes_of head.states depths entries) number
@@ -81,32 +79,9 @@ with_kept head depths entries number (Some (n ∷ ns)) depth node limits kept h 
     let as_kept : is_next head depths (record { depth = saturated n; entries = map saturated ns }) ≡ b = rw (← depth_is, ← node_is) next in
     let test : is_next head (map (λ x. x.depth) nodes) said ≡ b =
     rw (depths-nodes_of head.states depths entries) (sym (next-kept head depths entries n ns limits kept) ∙ as_kept) in
-    rw test (by b as_kept depth_is node_is)
+    rw test (by b as_kept)
   where
-    by : (b : Bool) → is_next head depths (record { depth = saturated n; entries = map saturated ns }) ≡ b → depth ≡ saturated n → node ≡ map saturated ns
+    by : (b : Bool) → is_next head depths (record { depth = saturated n; entries = map saturated ns }) ≡ b
         → if_next (nodes_of head.states depths entries) number (record { depth = n; entries = ns }) b ≡ if_next (nodes_of head.states depths entries) number (record { depth = depth; entries = node }) b
-    by true k depth_is node_is = let same = same-kept head depths entries n ns limits kept k in rw (depth_is, node_is, same.first, same.rest)
-    by false k depth_is node_is = refl
-
--- a line whose numbers are the next node, as they are kept
-pub line-taken : (head : TreeHead) (depths entries : List ℕ) (line : NumberedLine) (depth : ℕ) (node : List ℕ) → IsTreeHead head
-    → AreKept head depths entries → Some (depth ∷ node) ≡ option_map (map saturated) (numbers_in (words line.text))
-    → is_next head depths (record { depth = depth; entries = node }) ≡ true
-    → with_line head (nodes_of head.states depths entries) line ≡ Ok (nodes_of head.states depths entries ++ record { depth = depth; entries = node }
-    ∷ [])
-line-taken head depths entries line depth node limits kept h next = with_kept head depths entries line.number (numbers_in (words line.text)) depth node limits kept h true next
-
--- one whose numbers aren't
-pub line-refused : (head : TreeHead) (depths entries : List ℕ) (line : NumberedLine) (depth : ℕ) (node : List ℕ) → IsTreeHead head
-    → AreKept head depths entries → Some (depth ∷ node) ≡ option_map (map saturated) (numbers_in (words line.text))
-    → is_next head depths (record { depth = depth; entries = node }) ≡ false
-    → with_line head (nodes_of head.states depths entries) line ≡ Err (BadTree line.number)
-line-refused head depths entries line depth node limits kept h next = with_kept head depths entries line.number (numbers_in (words line.text)) depth node limits kept h false next
-
--- the end of the lines, where all nodes are there
-pub nodes_from-whole : (last : ℕ) (head : TreeHead) (depths entries : List ℕ) → length depths ≡ head.node_count → nodes_from last head (nodes_of head.states depths entries) [] ≡ Ok (nodes_of head.states depths entries)
-nodes_from-whole last head depths entries whole = grind (arith, nat_tests, length-nodes_of head.states depths entries)
-
--- and where some are missing
-pub nodes_from-short : (last : ℕ) (head : TreeHead) (depths entries : List ℕ) → length depths ≢ head.node_count → nodes_from last head (nodes_of head.states depths entries) [] ≡ Err (BadTree last)
-nodes_from-short last head depths entries short = grind (arith, nat_tests, length-nodes_of head.states depths entries)
+    by true k = let same = same-kept head depths entries n ns limits kept k in cc (same.first, same.rest, h)
+    by false k = refl

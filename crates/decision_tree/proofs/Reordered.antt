@@ -76,8 +76,8 @@ head_from-swapped last final (first ∷ front) rest line next d h k l =
         (head_by d first.number (first ∷ (front ++ next ∷ line ∷ rest)) (λ e. head_from final e (front ++ next ∷ line ∷ rest)) o)
     by_found o is later z h = grind (arith, is, later)
 
-pub descriptors-swapped : DescriptorsInAnyOrder
-descriptors-swapped section front line next rest tree h k l =
+pub descriptors_swapped : DescriptorsInAnyOrder
+descriptors_swapped section front line next rest tree h k l =
     let last = last_number section.opened (front ++ line ∷ next ∷ rest) in
     let final = last_number section.opened (front ++ next ∷ line ∷ rest) in
     then_too (head_from last undescribed (front ++ line ∷ next ∷ rest)) (head_from final undescribed (front ++ next ∷ line ∷ rest)) (after_head last) (after_head final)

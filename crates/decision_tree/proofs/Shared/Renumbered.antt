@@ -94,3 +94,5 @@ tree_of-renumbered section other tree same h =
     let last = last_number section.opened section.lines in
     let final = last_number other.opened other.lines in
     tree-too last final (head_from last undescribed section.lines) (head_from final undescribed other.lines) tree (λ head left read. head_from-too last final section.lines other.lines undescribed head left same read) h
+
+pub ruleset renumbered = (tree_of-renumbered)

@@ -161,3 +161,5 @@ section-sound section tree h =
     let leading = said.said.leading said.two (length (entries_in said.nodes) - 1) (places_of said.head.neighbors) (grind (arith, common_steps, many, said.all, said.some)) deep in
     and_from (is_quiescent tree) (leads tree.states tree.nodes (root_of tree) (places_of tree.neighbors)) said.quiet
     (subst (λ (t : Tree). leads t.states t.nodes (root_of t) (places_of t.neighbors) ≡ true) said.is leading)
+
+pub ruleset sound_sections = (section-sound)

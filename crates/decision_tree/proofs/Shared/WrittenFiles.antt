@@ -55,3 +55,5 @@ lines-plain head nodes limits are = (
 pub written-file : WrittenIsItsFile
 written-file name head nodes h limits are =
     file-written name Tree (codes "@TREE") (written_lines head nodes) h (line-visible (codes "@TREE") (omega arith) (visible-tested (codes "@TREE") refl)) refl (lines-plain head nodes limits are)
+
+pub ruleset written_files = (written-file)

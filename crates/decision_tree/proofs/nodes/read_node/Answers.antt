@@ -1,11 +1,11 @@
-use Rattle.std.proofs.Common.{◌≡◌, ◌∙◌, ◌-◌, ◌∷◌, length, map, take, drop, get_or, List, ℕ, Some, Ok, Err, sym, ap, inr}
+use Rattle.std.proofs.Common.{◌≡◌, ◌∙◌, ◌-◌, ◌∷◌, length, map, take, drop, get_or, List, ℕ, Some, Ok, Err, sym, ap, inr, true, false}
 use Rattle.std.specs.Option.{option_map}
 use Rattle.rule_file.specs.declared.fault.RuleFault.TheVariants.{BadTree}
 use Rattle.decision_tree.specs.Kept.{saturated}
 use Rattle.decision_tree.specs.TreeLines.{is_next, numbers_in, words}
 use Rattle.decision_tree.proofs.Shared.Growing.{IsNextNode, is_next-node, kept-push}
 use Rattle.decision_tree.proofs.Shared.KeptNodes.{first-and-others, nodes_of-push}
-use Rattle.decision_tree.proofs.NextNode.{line-refused, line-taken}
+use Rattle.decision_tree.proofs.NextNode.{with_kept}
 use Rattle.decision_tree.proofs.nodes.read_node.Goals as goal
 use Rattle.decision_tree.proofs.nodes.read_node.Goals.{After-is_next, Else-not-is_next}
 
@@ -36,8 +36,8 @@ pub returns-then-not-is_next-clause-read : goal.returns-then-not-is_next-clause-
 returns-then-not-is_next-clause-read c =
     let nodes = c.args.nodes.now in
     let at = (goal.at.returns-then-not-is_next-clause-read c).After-is_next in
-    inr (line-refused c.args.head nodes.depths.items nodes.entries.items c.args.line.now (depth_in c.as_slice.result.now)
-    (entries_in c.as_slice.result.now) c.requires.head c.requires.kept (said at) (test at ∙ c.if-not-is_next.true)
+    inr (with_kept c.args.head nodes.depths.items nodes.entries.items c.args.line.now.number _ (depth_in c.as_slice.result.now)
+    (entries_in c.as_slice.result.now) c.requires.head c.requires.kept (said at) false (test at ∙ c.if-not-is_next.true)
     ∙ ap (λ n. Err (BadTree n)) (sym c.number.ensures))
 
 pub returns-clause-read : goal.returns-clause-read
@@ -47,7 +47,7 @@ returns-clause-read c =
     let node = entries_in c.as_slice.result.now in
     let at = (goal.at.returns-clause-read c).After-is_next in
     rw (c.in_ok-push.ensures.items, c.in_ok-extend_from_slice.ensures.items)
-    (line-taken c.args.head nodes.depths.items nodes.entries.items c.args.line.now depth node c.requires.head c.requires.kept (said at) (test at ∙ c.if-not-is_next.false)
+    (with_kept c.args.head nodes.depths.items nodes.entries.items c.args.line.now.number _ depth node c.requires.head c.requires.kept (said at) true (test at ∙ c.if-not-is_next.false)
     ∙ ap Ok (sym (nodes_of-push c.args.head.states nodes.depths.items nodes.entries.items depth node c.requires.kept.filled
     (next (goal.at.returns-clause-read c).Else-not-is_next).width)))
 

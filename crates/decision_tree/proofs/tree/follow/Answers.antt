@@ -17,19 +17,13 @@ overflow_mul-number c =
 
 pub overflow_add-number : goal.overflow_add-number
 overflow_add-number c =
-    omega (
-      arith,
-      (step (goal.at.overflow_add-number c).In-loop-input (c.loop-input.number * c.from-width.result + c.from.result)
-          (rw (c.from-width.ensures, c.from.ensures))).inside,
-    )
+    let place = c.loop-input.number * c.from-width.result + c.from.result in
+    omega (arith, (step (goal.at.overflow_add-number c).In-loop-input place (rw (c.from-width.ensures, c.from.ensures))).inside)
 
 pub offset_bounds-entries-number : goal.offset_bounds-entries-number
 offset_bounds-entries-number c =
-    omega (
-      arith,
-      (step (goal.at.offset_bounds-entries-number c).In-loop-input (c.loop-input.number * c.from-width.result + c.from.result)
-          (rw (c.from-width.ensures, c.from.ensures))).inside,
-    )
+    let place = c.loop-input.number * c.from-width.result + c.from.result in
+    omega (arith, (step (goal.at.offset_bounds-entries-number c).In-loop-input place (rw (c.from-width.ensures, c.from.ensures))).inside)
 
 pub bounds-entries-number : goal.bounds-entries-number
 bounds-entries-number c = (step (goal.at.bounds-entries-number c).In-loop-input _ (rw (c.from-width.ensures, c.from.ensures))).inside

@@ -1,7 +1,7 @@
-use Rattle.std.proofs.Common.{◌≡◌, ◌∙◌, ◌+◌, ◌-◌, Ok, sym, ap, inr, arith}
+use Rattle.std.proofs.Common.{◌≡◌, ◌∙◌, ◌-◌, Ok, sym, ap, inr, arith}
 use Rattle.worlds.specs.Step.{nine_zeros}
-use Rattle.decision_tree.specs.Kept.{IsKeptTree, nodes_in, tree_of_kept}
-use Rattle.decision_tree.specs.Tree.{follow, inputs_of, next}
+use Rattle.decision_tree.specs.Kept.{IsKeptTree, tree_of_kept}
+use Rattle.decision_tree.specs.Tree.{next}
 use Rattle.decision_tree.specs.TreeLines.{if_quiescent}
 use Rattle.decision_tree.proofs.Finishing.{if_quiescent-no, if_quiescent-yes, kept-tree, tree-kept}
 use Rattle.decision_tree.proofs.Following.{next-kept}
@@ -13,8 +13,7 @@ found : (c : After-next_in) → c.next_in.result ≡ next (tree_of_kept c.args.h
 found c =
     let head = c.args.head in
     let root = head.node_count - 1 in
-    c.next_in.ensures ∙ ap (λ es. follow (nodes_in head.states (root + 1) es) root (inputs_of head.neighbors nine_zeros)) c.deref.ensures.value
-    ∙ next-kept head.states head.neighbors root c.args.nodes.entries.items nine_zeros
+    rw c.deref.ensures.value at c.next_in.ensures ∙ next-kept head.states head.neighbors root c.args.nodes.entries.items nine_zeros
 
 -- where it is 0 the tree is one that a file may have
 kept : (c : Else-next_in-ne0) → IsKeptTree c.args.head.states c.args.head.neighbors (c.args.head.node_count - 1) c.args.nodes.entries.items
