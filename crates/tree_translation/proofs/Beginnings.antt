@@ -1,5 +1,5 @@
 -- Beginnings of a table's inputs, by those of its rows.
-use Rattle.std.proofs.Common.{◌≡◌, inl, inr, ℕ, ◌<◌, List, [], ◌∷◌, ◌++◌, All, length, map, slice_index, slice_index_or, refl, sym, ap, subst, ◌∙◌, arith}
+use Rattle.std.proofs.Common.{◌≡◌, inl, inr, ℕ, ◌<◌, List, [], ◌∷◌, ◌++◌, All, length, map, slice_index, slice_index_or, refl, sym, ap, subst, ◌∙◌, arith, rules}
 use Rattle.std.proofs.lemmas.List.{get_or-map, length-map}
 use Rattle.std.proofs.lemmas.List.Elements.{All-append, All-from_recursion}
 use Rattle.worlds.specs.Step.{AreNineBelow}
@@ -31,9 +31,8 @@ around-below : (n : ℕ) (neighbors : Neighbors) (inputs : List ℕ) → 0 < n �
 around-below n neighbors inputs some low = by neighbors (state-below n inputs some low)
   where
     by : (neighbors : Neighbors) → ((k : ℕ) → slice_index inputs k < n) → AreNineBelow n (around_of neighbors inputs)
-    by Four at = record { nine = refl; below = All-from_recursion (λ s. s < n) (around_of Four inputs) (at 4, (at 0, (some, (at 2, (some, (at 3, (some, (at 1, (some, tt))))))))) }
-    by Eight at =
-        record { nine = refl; below = All-from_recursion (λ s. s < n) (around_of Eight inputs) (at 8, (at 4, (at 1, (at 6, (at 3, (at 7, (at 2, (at 5, (at 0, tt))))))))) }
+    by Four at = record { nine = refl; below = All-from_recursion (λ s. s < n) (around_of Four inputs) (search (rules, at, some)) }
+    by Eight at = record { nine = refl; below = All-from_recursion (λ s. s < n) (around_of Eight inputs) (search (rules, at)) }
 
 module _ (table : Table) (rows : List Expanded) (count : ℕ) (some : 0 < table.states) (are : AreExpanded table rows)
     (needed : NeedStarts table.states (length (order_of table.neighborhood)) (λ k inputs. rows_give (order_of table.neighborhood) rows inputs) 1 count) where

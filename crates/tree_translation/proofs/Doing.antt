@@ -1,8 +1,7 @@
 -- Nodes that do what lists of tails do.
-use Rattle.std.proofs.Common.{◌≡◌, ℕ, suc, ◌<◌, true, cond, nat_lt, List, [], ◌∷◌, ◌++◌, length, slice_index, Option, Some, None, unwrap_or, refl, ap, subst, ◌∙◌, arith, rules, tests}
+use Rattle.std.proofs.Common.{◌≡◌, ℕ, suc, ◌<◌, true, cond, nat_lt, List, [], ◌∷◌, ◌++◌, length, slice_index, Option, Some, None, unwrap_or, refl, ap, subst, ◌∙◌, arith}
 use Rattle.std.specs.Prelude.{All}
 use Rattle.std.specs.List.{list_all}
-use Rattle.std.proofs.lemmas.Bool.{and_parts}
 use Rattle.std.proofs.lemmas.Bool.Decides.{nat_tests}
 use Rattle.std.proofs.lemmas.List.{get_or_append_left}
 use Rattle.std.proofs.lemmas.List.Sums.{list_all-from_AllPass}
@@ -21,11 +20,9 @@ use Rattle.tree_translation.proofs.NodeLists.{firsts-all}
 follow-append : (n : ℕ) (nodes more : List Entries) (number : ℕ) (inputs : List ℕ) → leads n nodes number inputs ≡ true → list_all (λ s. nat_lt s n) inputs ≡ true → follow (nodes ++ more) number inputs ≡ follow nodes number inputs
 follow-append n nodes more number [] h low = refl
 follow-append n nodes more number (input ∷ inputs) h low =
-    let parts = and_parts (nat_lt input n) (list_all (λ s. nat_lt s n) inputs) low in
-    let first : nat_lt input n ≡ true = parts.0 in
-    let under : input < n = search (rules, tests) in
+    let under : input < n = grind (arith, nat_tests) in
     let inside : number < length nodes = none-past nodes number n (omega (arith, under)) (leads-width n nodes number input inputs h) in
-    rw (get_or_append_left nodes more [] number inside) (follow-append n nodes more _ inputs (leads-on n nodes number input inputs h under) parts.1)
+    rw (get_or_append_left nodes more [] number inside) (follow-append n nodes more _ inputs (leads-on n nodes number input inputs h under) (grind arith))
 
 -- nor of what they do
 pub Does-append : (states : ℕ) (layers : List Layer) (nodes more : List Entries) (list : List ℕ) (number : ℕ) → 0 < states → Does states layers nodes list number → Does states layers (nodes ++ more) list number
@@ -88,8 +85,6 @@ Does-branch states layer next deeper nodes list entries number wide each at = re
     follows : (inputs : List ℕ) → length inputs ≡ suc (suc (length deeper)) → list_all (λ s. nat_lt s states) inputs ≡ true → follow nodes number inputs ≡ outcome (layer ∷ next ∷ deeper) list inputs
     follows [] long low = absurd (omega (arith, long))
     follows (input ∷ inputs) long low =
-        let parts = and_parts (nat_lt input states) (list_all (λ s. nat_lt s states) inputs) low in
-        let first : nat_lt input states ≡ true = parts.0 in
-        let under : input < states = search (rules, tests) in
+        let under : input < states = grind (arith, nat_tests) in
         let rest : length inputs ≡ suc (length deeper) = omega (arith, long) in
-        rw at ((each input under).does.follows inputs rest parts.1 ∙ outcome-left layer next deeper list (each input under).left input inputs rest (each input under).is)
+        rw at ((each input under).does.follows inputs rest (grind arith) ∙ outcome-left layer next deeper list (each input under).left input inputs rest (each input under).is)

@@ -5,11 +5,12 @@ use Rattle.std.proofs.lemmas.Grind.{common_steps, elements}
 use Rattle.std.proofs.lemmas.List.{get_or_default}
 use Rattle.std.proofs.lemmas.List.Elements.{All-cons, All-nil}
 use Rattle.std.proofs.lemmas.Option.{get_or_from_slice_get}
+use Rattle.std.proofs.lemmas.Slice.Eq.{bytes_eq-Decides}
 use Rattle.indexmap.specs.IndexSet.{insert_key}
 use Rattle.table_symmetry.specs.declared.expansion.Expanded.{Expanded}
 use Rattle.tree_translation.specs.declared.layers.Layer.{Layer}
 use Rattle.tree_translation.specs.declared.layers.Tail.{Tail}
-use Rattle.tree_translation.specs.Layers.{AreLayersOf, IsGrownBy, IsLayer, IsLayerOf, StandsFor, asked_at, count_of, rest_at, tail_at}
+use Rattle.tree_translation.specs.Layers.{AreLayersOf, IsGrownBy, IsLayer, IsLayerOf, StandsFor, asked_at, count_of, rest_at, same_asked, tail_at}
 
 -- tails are equal where their fields are
 abbrev pub same_tail : Tail → Tail → Bool
@@ -17,6 +18,10 @@ same_tail a b = (a.set == b.set) && (a.rest == b.rest)
 
 pub same_from_tail : (a b : Tail) → same_tail a b ≡ true → b ≡ a
 same_from_tail a b h = grind (arith, nat_tests)
+
+-- what is asked is the same where the test says so
+pub asked-same : (set other : Option (List ℕ)) → same_asked set other ≡ true → other ≡ set
+asked-same set other h = grind (arith, bytes_eq-Decides)
 
 -- a key that is inserted comes behind those that are there, or is there
 pub grown-insert_key : {X : Type 0} (eq : X → X → Bool) (old new : List X) (x : X) → new ≡ insert_key eq old x → IsGrownBy old x new
@@ -75,21 +80,20 @@ module _ (place : Option ℕ) (rows : List Expanded) (lasts : List ℕ) (sets mo
         (grind (arith, tail-here, next.leaves)) k h;
   }
 
--- once all rows are there, it is the layer of the rows
-pub IsLayerOf-all : (place : Option ℕ) (rows : List Expanded) (lasts : List ℕ) (layer : Layer) (sets : List (Option (List ℕ))) (tails : List Tail)
-    (numbers : List ℕ) (n : ℕ) → layer.sets.items ≡ sets → layer.tails.items ≡ tails → n ≡ length rows
-    → AreTails place rows lasts sets tails numbers n → IsLayerOf place rows lasts layer numbers
-IsLayerOf-all place rows lasts layer sets tails numbers n same_sets same all h =
-    let whole : AreTails place rows lasts layer.sets.items layer.tails.items numbers (length rows) = rw (same_sets, same, ← all) h in
-    record { count = whole.count; inside = whole.inside; few = whole.few_tails; asks = whole.asks; leaves = whole.leaves }
+-- once all rows are there, it is the layer of the rows, and fits each count that is above what is left of them
+pub record AreAll (place : Option ℕ) (rows : List Expanded) (lasts : List ℕ) (layer : Layer) (numbers : List ℕ) : Type 0 where
+  pub fits : (count : ℕ) → All (λ last. last < count) lasts → IsLayer layer count
+  pub of : IsLayerOf place rows lasts layer numbers
 
--- it fits each count that is above what is left of the rows
-pub IsLayer-all : (place : Option ℕ) (rows : List Expanded) (lasts : List ℕ) (layer : Layer) (sets : List (Option (List ℕ))) (tails : List Tail)
-    (numbers : List ℕ) (n count : ℕ) → layer.sets.items ≡ sets → layer.tails.items ≡ tails → All (λ last. last < count) lasts
-    → AreTails place rows lasts sets tails numbers n → IsLayer layer count
-IsLayer-all place rows lasts layer sets tails numbers n count same_sets same below h =
-    let all : AreTails place rows lasts layer.sets.items layer.tails.items numbers n = rw (same_sets, same) h in
-    record { sets = all.asking; rests = all.leaving count below }
+pub all-rows : {place : Option ℕ} {rows : List Expanded} {lasts : List ℕ} {sets : List (Option (List ℕ))} {tails : List Tail} {numbers : List ℕ} {n : ℕ}
+    (layer : Layer) → AreTails place rows lasts sets tails numbers n → layer.sets.items ≡ sets → layer.tails.items ≡ tails → n ≡ length rows
+    → AreAll place rows lasts layer numbers
+all-rows {place = place} {rows = rows} {lasts = lasts} {numbers = numbers} layer h same_sets same all =
+    let whole : AreTails place rows lasts layer.sets.items layer.tails.items numbers (length rows) = rw (same_sets, same, ← all) h in
+    record {
+      fits = λ count below. record { sets = whole.asking; rests = whole.leaving count below };
+      of = record { count = whole.count; inside = whole.inside; few = whole.few_tails; asks = whole.asks; leaves = whole.leaves };
+    }
 
 abbrev none_row : Expanded
 none_row = record { inputs = []; result = 0 }

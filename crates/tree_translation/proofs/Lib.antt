@@ -1,5 +1,4 @@
 mod Apart
-mod Asked
 mod Beginnings
 mod Doing
 mod Layering

@@ -1,29 +1,26 @@
 -- Lists of tails and the nodes that do what they do.
-use Rattle.std.proofs.Common.{◌≡◌, ◌≢◌, ◌∙◌, inl, inr, ℕ, zero, suc, ◌+◌, ◌-◌, ◌<◌, ◌≤◌, Bool, true, false, cond, nat_lt, List, [], ◌∷◌, ◌++◌, All, Some, length, drop, slice_index, slice_index_or, append-nil, append_assoc, below_more, refl, sym, ap, subst, arith}
-use Rattle.std.specs.List.{IsDistinct, list_all, list_any, position_or_len, slice_get}
+use Rattle.std.proofs.Common.{◌≡◌, ◌≢◌, ◌∙◌, inl, inr, ℕ, zero, suc, ◌+◌, ◌-◌, ◌<◌, ◌≤◌, Bool, true, false, cond, nat_lt, List, [], ◌∷◌, ◌++◌, All, Some, length, drop, slice_index, slice_index_or, append-nil, append_assoc, below_more, refl, sym, ap, subst, add-one, arith}
+use Rattle.std.specs.List.{IsDistinct, list_any, position_or_len}
 use Rattle.std.specs.HashMap.{get}
-use Rattle.std.proofs.lemmas.Bool.{and_from, and_parts, cases_eq, cases_lt, cases_order, eq-eqb, eqb-true}
-use Rattle.std.proofs.lemmas.List.{drop_more, get_or-map, length-append, length-drop, length-map, map-append, nil_from_length}
+use Rattle.std.proofs.lemmas.Bool.{and_from, and_parts, cases_eq, cases_order, eq-eqb, eqb-true}
+use Rattle.std.proofs.lemmas.List.{drop_more, get_or-map, length-append, length-drop, length-map, map-append}
 use Rattle.std.proofs.lemmas.List.Elements.{All-append, All-cons, All-nil, All-push, All-tail}
 use Rattle.std.proofs.lemmas.List.Sums.{list_all-from_AllPass}
 use Rattle.std.proofs.lemmas.Map.Keys.{apart_from_distinct}
-use Rattle.std.proofs.lemmas.Option.{get_or_from_slice_get, slice_get_within}
 use Rattle.std.proofs.lemmas.Slice.Eq.{bytes_eq-Decides}
-use Rattle.indexmap.specs.IndexSet.{insert_key}
 use Rattle.tree_translation.specs.declared.layers.Layer.{Layer}
 use Rattle.tree_translation.specs.declared.listed.Listed.{Listed}
 use Rattle.tree_translation.specs.declared.listed.Node.{Node}
 use Rattle.tree_translation.specs.declared.numbering.Found.{Found}
-use Rattle.tree_translation.specs.Layers.{Fit, IsGrownBy, IsLayer, count_of}
+use Rattle.tree_translation.specs.Layers.{Fit, IsGrownBy, IsLayer}
 use Rattle.tree_translation.specs.Numbering.{AreBegun, AreEntries, AreFit, AreNodes, AreTailsAt, Grows, IsBegun, IsEntry, IsFull, IsLeft, IsNode, IsNumberOf, IsStored, NeedsTooMany, entries_in, input_at, same_listed, same_node}
 use Rattle.tree_translation.specs.Starts.{NeedStarts, Start, StartsApart, start_at}
 use Rattle.tree_translation.specs.Translation.{Does, LeftOf, node_limit, outcome}
-use Rattle.decision_tree.specs.Tree.{Entries, follow, node_at}
+use Rattle.decision_tree.specs.Tree.{follow, node_at}
 use Rattle.std.proofs.lemmas.Bool.Decides.{nat_tests}
 use Rattle.std.proofs.lemmas.Grind.{common_steps, elements}
 use Rattle.tree_translation.proofs.Apart.{DifferAt, different-at}
 use Rattle.tree_translation.proofs.NodeLists.{each-push}
-use Rattle.std.proofs.lemmas.List.{get_or_default}
 use Rattle.tree_translation.proofs.Doing.{Does-append, Does-branch, Does-leaf, outcome-left}
 
 -- nodes that differ in their numbers differ in their inputs or entries
@@ -80,9 +77,14 @@ module _ (states depth : ℕ) (nodes : List Node) (are : AreNodes states depth n
       let node = are.each k l in
       let under : s < states = low 0 s (omega arith) in
       let deeper : input_at nodes k + 1 < depth = omega (arith, long) in
-      let at : node_at (entries_in (nodes ++ more)) k ≡ node_at (entries_in nodes) k = grind (arith, common_steps, map-append) in
       let entry = slice_index (node_at (entries_in nodes) k) s in
-      rw at (follow-before more entry (t ∷ rest) (node.inside s under deeper) (omega (arith, node.down s under deeper, long)) (All-tail (λ s. s < states) s (t ∷ rest) low))
+      grind (
+        arith,
+        common_steps,
+        map-append,
+        follow-before more entry (t ∷ rest) (node.inside s under deeper) (omega (arith, node.down s under deeper, long))
+            (All-tail (λ s. s < states) s (t ∷ rest) low),
+      )
 
   -- where more nodes come, a node still does what begins there
   IsBegun-append : (give : List ℕ → ℕ) (more : List Node) (k : ℕ) → k < length nodes → IsBegun states depth give nodes k → IsBegun states depth give (nodes ++ more) k
@@ -101,60 +103,49 @@ module _ (states depth : ℕ) (nodes : List Node) (are : AreNodes states depth n
   AreNodes-push node is apart = grind (arith, common_steps, map-append)
 
 -- starts with what holds of each
-record Gathered (count : ℕ) (P : ℕ → Start → Type 0) : Type 0 where
-  starts : List Start
-  many : length starts ≡ count
-  each : (k : ℕ) → k < count → P k (start_at starts k)
-
-gather : (count : ℕ) (P : ℕ → Start → Type 0) → ((k : ℕ) → k < count → (s : Start) × P k s) → Gathered count P
-gather zero P f = record { starts = []; many = refl; each = λ k l. absurd (omega (arith, l)) }
+gather : (count : ℕ) (P : ℕ → Start → Type 0) → ((k : ℕ) → k < count → (s : Start) × P k s) → (starts : List Start) × (length starts ≡ count) × ((k : ℕ) → k < count → P k (start_at starts k))
+gather zero P f = ([], refl, λ k l. absurd (omega (arith, l)))
 gather (suc count) P f =
     let before = gather count P (λ k l. f k (omega (arith, l))) in
     let last = f count (omega arith) in
-    record {
-      starts = before.starts ++ last.0 ∷ [];
-      many = grind (arith, common_steps, before.many);
-      each = λ k l. each-push (record { number = 0; inputs = [] }) P before.starts last.0 count before.many before.each last.1 k (omega (arith, l));
-    }
+    (before.0 ++ last.0 ∷ [], grind (arith, common_steps, before.1), λ k l. each-push _ P before.0 last.0 count before.1 before.2 last.1 k (omega (arith, l)))
 
--- a start for a node
-record StartsAt (states depth : ℕ) (give : List ℕ → ℕ) (nodes : List Node) (k : ℕ) (start : Start) : Type 0 where
-  begun : IsBegun states depth give nodes k
-  is : start ≡ record { number = 0; inputs = begun.beginning }
+module _ (states depth : ℕ) (give : List ℕ → ℕ) (nodes : List Node) (are : AreNodes states depth nodes) (begun : AreBegun states depth give nodes) where
+  abbrev StartsAt : ℕ → Start → Type 0
+  StartsAt k start = (begun : IsBegun states depth give nodes k) × (start ≡ record { number = 0; inputs = begun.beginning })
 
--- different nodes that begin somewhere are all needed
-pub nodes-needed : (states depth : ℕ) (give : List ℕ → ℕ) (nodes : List Node) → AreNodes states depth nodes → AreBegun states depth give nodes → NeedStarts states depth (λ k inputs. give inputs) 1 (length nodes)
-nodes-needed states depth give nodes are begun = record {
-  starts = all.starts;
-  many = all.many;
-  are = λ k l.
-      let one : StartsAt states depth give nodes k (start_at all.starts k) = all.each k l in
-      rw one.is (record { there = omega arith; below = one.begun.below; short = omega (arith, one.begun.long, (are.each k l).early) });
-  apart = λ i j less l.
-      let one : StartsAt states depth give nodes i (start_at all.starts i) = all.each i (omega (arith, less, l)) in
-      let two : StartsAt states depth give nodes j (start_at all.starts j) = all.each j l in
-      rw (one.is, two.is) (apart i j less l (omega (arith, less, l)) one.begun two.begun);
-}
-  where
-    all : Gathered (length nodes) (StartsAt states depth give nodes)
-    all = gather (length nodes) (StartsAt states depth give nodes) (λ k l. (_, record { begun = begun k l; is = refl }))
+  apart : (i j : ℕ) → i < j → j < length nodes → i < length nodes → (one : IsBegun states depth give nodes i) → (two : IsBegun states depth give nodes j)
+      → StartsApart states depth (λ k inputs. give inputs) (record { number = 0; inputs = one.beginning }) (record { number = 0; inputs = two.beginning })
+  apart i j less l m one two = elim (cases_eq (input_at nodes i) (input_at nodes j)) [
+    | inr other ↦ inl (λ same. other (sym one.long ∙ same ∙ two.long))
+    | inl same ↦
+        let early = (are.each i m).early in
+        let differ = follow-apart states depth nodes are (depth - input_at nodes i - 1) i j m l (λ e. absurd (omega (arith, e, less))) same (omega (arith, early)) in
+        let long : input_at nodes j + length differ.rest ≡ depth = omega (arith, differ.long, same) in
+        inr (record {
+          rest = differ.rest;
+          below = differ.below;
+          long = length-append one.beginning differ.rest ∙ omega (arith, one.long, differ.long);
+          other_long = length-append two.beginning differ.rest ∙ omega (arith, two.long, long);
+          differ = λ e. differ.differ (sym (one.same differ.rest differ.long differ.below) ∙ e ∙ two.same differ.rest long differ.below);
+        })
+  ]
 
-    apart : (i j : ℕ) → i < j → j < length nodes → i < length nodes → (one : IsBegun states depth give nodes i) → (two : IsBegun states depth give nodes j)
-        → StartsApart states depth (λ k inputs. give inputs) (record { number = 0; inputs = one.beginning }) (record { number = 0; inputs = two.beginning })
-    apart i j less l m one two = elim (cases_eq (input_at nodes i) (input_at nodes j)) [
-      | inr other ↦ inl (λ same. other (sym one.long ∙ same ∙ two.long))
-      | inl same ↦
-          let early = (are.each i m).early in
-          let differ = follow-apart states depth nodes are (depth - input_at nodes i - 1) i j m l (λ e. absurd (omega (arith, e, less))) same (omega (arith, early)) in
-          let long : input_at nodes j + length differ.rest ≡ depth = omega (arith, differ.long, same) in
-          inr (record {
-            rest = differ.rest;
-            below = differ.below;
-            long = length-append one.beginning differ.rest ∙ omega (arith, one.long, differ.long);
-            other_long = length-append two.beginning differ.rest ∙ omega (arith, two.long, long);
-            differ = λ e. differ.differ (sym (one.same differ.rest differ.long differ.below) ∙ e ∙ two.same differ.rest long differ.below);
-          })
-    ]
+  -- different nodes that begin somewhere are all needed
+  pub nodes-needed : NeedStarts states depth (λ k inputs. give inputs) 1 (length nodes)
+  nodes-needed =
+      let all = gather (length nodes) StartsAt (λ k l. (record { number = 0; inputs = (begun k l).beginning }, (begun k l, refl))) in
+      record {
+        starts = all.0;
+        many = all.1;
+        are = λ k l.
+            let one : StartsAt k (start_at all.0 k) = all.2 k l in
+            rw one.1 (record { there = omega arith; below = one.0.below; short = omega (arith, one.0.long, (are.each k l).early) });
+        apart = λ i j less l.
+            let one : StartsAt i (start_at all.0 i) = all.2 i (omega (arith, less, l)) in
+            let two : StartsAt j (start_at all.0 j) = all.2 j l in
+            rw (one.1, two.1) (apart i j less l (omega (arith, less, l)) one.0 two.0);
+      }
 
 -- more nodes change nothing of those before
 module _ (nodes more : List Node) where
@@ -173,10 +164,6 @@ module _ (nodes more : List Node) where
   AreEntries-append states layers input list entries some are =
       record { width = are.width; leaves = are.leaves; each = λ m s l. IsEntry-append states layers input list s (slice_index entries s) some (are.each m s l) }
 
--- states are below their count, by the test
-list_all-below : (n : ℕ) (xs : List ℕ) → All (λ s. s < n) xs → list_all (λ s. nat_lt s n) xs ≡ true
-list_all-below n xs low = list_all-from_AllPass (λ s. nat_lt s n) xs (λ k d l. grind (arith, nat_tests, low k d l))
-
 -- a node that does what a list does begins where the list is left
 IsBegun-left : (states : ℕ) (layers : List Layer) (nodes : List Node) (input : ℕ) (list : List ℕ) (number : ℕ) (give : List ℕ → ℕ)
     → IsLeft states layers give input list → IsNumberOf states layers nodes input list number → IsBegun states (length layers) give nodes number
@@ -184,7 +171,9 @@ IsBegun-left states layers nodes input list number give left is = record {
   beginning = left.beginning;
   long = left.long ∙ sym is.at;
   below = left.below;
-  same = λ rest long low. grind (arith, common_steps, left.same rest, is.does.follows rest, list_all-below states rest low, is.at);
+  same = λ rest long low.
+      let tested = list_all-from_AllPass (λ s. nat_lt s states) rest (λ k d l. grind (arith, nat_tests, low k d l)) in
+      grind (arith, common_steps, left.same rest, is.does.follows rest, tested, is.at);
 }
 
 -- layers fit from each on
@@ -204,84 +193,70 @@ module _ (layers : List Layer) (input : ℕ) (here : Layer) (behind : List Layer
   many-behind : input < length layers → length layers ≡ input + 1 + length behind
   many-behind there = omega (arith, length-drop input layers, ap length from)
 
--- a node of these entries does what the list does
-does-made : (states : ℕ) (layers : List Layer) (nodes : List Node) (input : ℕ) (list entries : List ℕ) (number : ℕ) → Fit states layers
-    → AreTailsAt layers input list → AreEntries states layers nodes input list entries → node_at (entries_in nodes) number ≡ entries
-    → Does states (drop input layers) (entries_in nodes) list number
-does-made states layers nodes input list entries number fit tails are at = by (drop input layers) refl
+-- the number of a node of these entries, which does what the list does
+number-made : (states : ℕ) (layers : List Layer) (nodes : List Node) (node : Node) (input : ℕ) (list : List ℕ) (number : ℕ) → Fit states layers
+    → AreTailsAt layers input list → node.input ≡ input → AreEntries states layers nodes input list node.entries → IsStored nodes node number
+    → IsNumberOf states layers nodes input list number
+number-made states layers nodes node input list number fit tails same are stored =
+    record { inside = stored.inside; at = stored.input ∙ same; does = by (drop input layers) refl }
   where
     by : (ls : List Layer) → drop input layers ≡ ls → Does states ls (entries_in nodes) list number
     by [] from = absurd (omega (arith, length-drop input layers, ap length from, tails.there))
     by (here ∷ []) from =
         let last : input + 1 ≡ length layers = omega (arith, many-behind layers input here [] from tails.there) in
         let known = layer-here layers input here [] from in
-        Does-leaf states here (entries_in nodes) list entries number (rw from at (fit-drop states layers input fit)).0 (rw known at (tails.inside here))
-        (rw known at (are.leaves last here)) at
+        Does-leaf states here (entries_in nodes) list node.entries number (rw from at (fit-drop states layers input fit)).0 (rw known at (tails.inside here))
+        (rw known at (are.leaves last here)) stored.entries
     by (here ∷ next ∷ deeper) from =
         let more : input + 1 < length layers = omega (arith, many-behind layers input here (next ∷ deeper) from tails.there) in
-        Does-branch states here next deeper (entries_in nodes) list entries number are.width
+        Does-branch states here next deeper (entries_in nodes) list node.entries number are.width
         (λ s l. let one = are.each more s l in record {
           left = one.left;
           is = rw (layer-here layers input here (next ∷ deeper) from) at (one.is here);
           does = rw (layers-behind layers input here (next ∷ deeper) from) at one.number_of.does;
-        }) at
+        }) stored.entries
 
--- the number of a node of these entries
-number-made : (states : ℕ) (layers : List Layer) (nodes : List Node) (node : Node) (input : ℕ) (list : List ℕ) (number : ℕ) → Fit states layers
-    → AreTailsAt layers input list → node.input ≡ input → AreEntries states layers nodes input list node.entries → IsStored nodes node number
-    → IsNumberOf states layers nodes input list number
-number-made states layers nodes node input list number fit tails same are stored = record {
-  inside = stored.inside;
-  at = stored.input ∙ same;
-  does = does-made states layers nodes input list node.entries number fit tails are stored.entries;
-}
+module _ (states : ℕ) (layers : List Layer) (input : ℕ) (list left : List ℕ) (s : ℕ) (old mid : Found) (deep : input + 1 < length layers) (under : s < states)
+    (is : (d : Layer) → LeftOf (slice_index_or layers input d) s list left) (first : Grows states layers input (input + 1) list old mid) where
+  outcome-behind : (ls : List Layer) → drop input layers ≡ ls → (rest : List ℕ) → input + 1 + length rest ≡ length layers
+      → outcome (drop input layers) list (s ∷ rest) ≡ outcome (drop (input + 1) layers) left rest
+  outcome-behind (here ∷ next ∷ deeper) from rest long =
+      let many = many-behind layers input here (next ∷ deeper) from (omega (arith, deep)) in
+      rw (layers-behind layers input here (next ∷ deeper) from, from)
+      (sym (outcome-left here next deeper list left s rest (omega (arith, long, many)) (rw (layer-here layers input here (next ∷ deeper) from) at (is here))))
+  outcome-behind ls from rest long = absurd (omega (arith, deep, length-drop input layers, ap length from))
 
--- behind a state a list of tails is left
-IsLeft-behind : (states : ℕ) (layers : List Layer) (give : List ℕ → ℕ) (input : ℕ) (list left : List ℕ) (s : ℕ) → input + 1 < length layers
-    → s < states → ((d : Layer) → LeftOf (slice_index_or layers input d) s list left) → IsLeft states layers give input list
-    → IsLeft states layers give (input + 1) left
-IsLeft-behind states layers give input list left s more under is before = record {
-  beginning = before.beginning ++ s ∷ [];
-  long = length-append before.beginning (s ∷ []) ∙ omega (arith, before.long);
-  below = All-push (λ t. t < states) before.beginning s before.below under;
-  same = λ rest long low.
-      ap give (append_assoc before.beginning (s ∷ []) rest)
-      ∙ before.same (s ∷ rest) (omega (arith, long)) (All-cons (λ t. t < states) s rest under low)
-      ∙ by (drop input layers) refl rest (omega (arith, long));
-}
-  where
-    by : (ls : List Layer) → drop input layers ≡ ls → (rest : List ℕ) → input + 1 + length rest ≡ length layers
-        → outcome (drop input layers) list (s ∷ rest) ≡ outcome (drop (input + 1) layers) left rest
-    by [] from rest long = absurd (omega (arith, more, length-drop input layers, ap length from))
-    by (here ∷ []) from rest long = absurd (omega (arith, more, many-behind layers input here [] from (omega (arith, more))))
-    by (here ∷ next ∷ deeper) from rest long =
-        let many = many-behind layers input here (next ∷ deeper) from (omega (arith, more)) in
-        rw (layers-behind layers input here (next ∷ deeper) from, from)
-        (sym (outcome-left here next deeper list left s rest (omega (arith, long, many)) (rw (layer-here layers input here (next ∷ deeper) from) at (is here))))
+  -- behind a state a list of tails is left
+  IsLeft-behind : (give : List ℕ → ℕ) → IsLeft states layers give input list → IsLeft states layers give (input + 1) left
+  IsLeft-behind give before = record {
+    beginning = before.beginning ++ s ∷ [];
+    long = length-append before.beginning (s ∷ []) ∙ omega (arith, before.long);
+    below = All-push (λ t. t < states) before.beginning s before.below under;
+    same = λ rest long low.
+        ap give (append_assoc before.beginning (s ∷ []) rest)
+        ∙ before.same (s ∷ rest) (omega (arith, long)) (All-cons (λ t. t < states) s rest under low)
+        ∙ outcome-behind (drop input layers) refl rest (omega (arith, long));
+  }
 
--- what came for the lists behind earlier states, and then for the one behind this state
-pub Grows-behind : (states : ℕ) (layers : List Layer) (input : ℕ) (list left : List ℕ) (s : ℕ) (old mid new : Found) → input + 1 < length layers
-    → s < states → ((d : Layer) → LeftOf (slice_index_or layers input d) s list left) → Grows states layers input (input + 1) list old mid
-    → Grows states layers (input + 1) (input + 1) left mid new → Grows states layers input (input + 1) list old new
-Grows-behind states layers input list left s old mid new more under is first second = record {
-  known = second.known;
-  more = first.more ++ second.more;
-  joined = second.joined ∙ ap (λ xs. xs ++ second.more) first.joined ∙ append_assoc old.nodes.keys first.more second.more;
-  late = All-append (λ (node : Node). input + 1 ≤ node.input) first.more second.more first.late second.late;
-  begun = λ give begun before. second.begun give (first.begun give begun before) (IsLeft-behind states layers give input list left s more under is before);
-}
+  -- what came for the lists behind earlier states, and then for the one behind this state
+  pub Grows-behind : (new : Found) → Grows states layers (input + 1) (input + 1) left mid new → Grows states layers input (input + 1) list old new
+  Grows-behind new second = record {
+    known = second.known;
+    more = first.more ++ second.more;
+    joined = second.joined ∙ ap (λ xs. xs ++ second.more) first.joined ∙ append_assoc old.nodes.keys first.more second.more;
+    late = All-append (λ (node : Node). input + 1 ≤ node.input) first.more second.more first.late second.late;
+    begun = λ give begun before. second.begun give (first.begun give begun before) (IsLeft-behind give before);
+  }
 
--- too many are needed behind a state: then they are needed
-pub NeedsTooMany-behind : (states : ℕ) (layers : List Layer) (input : ℕ) (list left : List ℕ) (s : ℕ) (old mid : Found) → input + 1 < length layers
-    → s < states → ((d : Layer) → LeftOf (slice_index_or layers input d) s list left) → Grows states layers input (input + 1) list old mid
-    → NeedsTooMany states layers (input + 1) left mid → NeedsTooMany states layers input list old
-NeedsTooMany-behind states layers input list left s old mid more under is first large give begun before =
-    large give (first.begun give begun before) (IsLeft-behind states layers give input list left s more under is before)
+  -- too many are needed behind a state: then they are needed
+  pub NeedsTooMany-behind : NeedsTooMany states layers (input + 1) left mid → NeedsTooMany states layers input list old
+  NeedsTooMany-behind large give begun before = large give (first.begun give begun before) (IsLeft-behind give before)
 
 -- no node of this input is among nodes of later inputs
-is-later : (nodes : List Node) (input number : ℕ) → All (λ (x : Node). input < x.input) nodes → number < length nodes → input_at nodes number ≡ input → ⊥
-is-later [] input number later inside at = absurd (omega (arith, inside))
-is-later (node ∷ nodes) input number later inside at = omega (arith, at, get_or-map (λ (n : Node). n.input) (node ∷ nodes) number node 0 inside, later number node inside)
+pub is-later : (nodes : List Node) (input number : ℕ) → All (λ (x : Node). input < x.input) nodes → number < length nodes → input_at nodes number ≡ input → ⊥
+is-later nodes input number later inside at =
+    let node : Node = record { input = 0; entries = [] } in
+    omega (arith, at, get_or-map (λ (n : Node). n.input) nodes number node 0 inside, later number node inside)
 
 -- what comes with the node that a list gets
 pub record IsMade (states : ℕ) (layers : List Layer) (input : ℕ) (list : List ℕ) (old new : Found) (number : ℕ) : Type 0 where
@@ -350,7 +325,7 @@ module _ (states : ℕ) (layers : List Layer) (room input : ℕ) (list : List �
     brings (inr e) = record {
       more = node ∷ [];
       joined = e;
-      late = All-cons (λ (n : Node). input ≤ n.input) node [] (omega (arith, same)) (All-nil (λ (n : Node). input ≤ n.input));
+      late = grind (arith, elements, same);
       nodes = rw e (nodes-with (rw e at apart));
       begun = λ give begun left. rw e (begun-with give begun left);
     }
@@ -373,49 +348,30 @@ module _ (states : ℕ) (layers : List Layer) (room input : ℕ) (list : List �
           λ e. rw brought.joined (IsNumberOf-append before brought.more states layers q.input q.numbers.items n some (grown.known.numbers q n (grind (arith, numbers q, is, e))))
     ] refl
 
-    made-grows : Grows states layers input input list old new
-    made-grows = record {
-      known = record { few = few; nodes = brought.nodes; numbers = remembers };
-      more = grown.more ++ brought.more;
-      joined = brought.joined ∙ ap (λ xs. xs ++ brought.more) grown.joined ∙ append_assoc old.nodes.keys grown.more brought.more;
-      late = All-append (λ (n : Node). input ≤ n.input) grown.more brought.more (λ k d l. omega (arith, grown.late k d l)) brought.late;
-      begun = brought.begun;
-    }
-
     -- where no node is of this input yet, it is the last
-    made-last : All (λ (n : Node). input < n.input) old.nodes.keys → number + 1 ≡ length new.nodes.keys
-    made-last later = by put
-      where
-        beyond : All (λ (n : Node). input < n.input) before
-        beyond = rw grown.joined (All-append (λ (n : Node). input < n.input) old.nodes.keys grown.more later (λ k d l. omega (arith, grown.late k d l)))
-
-        by : IsGrownBy mid.nodes.keys node new.nodes.keys → number + 1 ≡ length new.nodes.keys
-        by (inl e) = absurd (is-later before input number beyond (grind (arith, stored.inside, e)) (ap (λ ns. input_at ns number) (sym e) ∙ stored.input ∙ same))
-        by (inr e) = elim (cases_lt number (length before)) [
-          | inl l ↦ absurd (is-later before input number beyond l (grind (arith, common_steps, map-append, e, stored.input, same)))
-          | inr past ↦ grind (arith, common_steps, stored.inside, e)
-        ]
+    made-last : IsGrownBy mid.nodes.keys node new.nodes.keys → All (λ (n : Node). input < n.input) old.nodes.keys → number + 1 ≡ length new.nodes.keys
+    made-last is later =
+        let beyond : All (λ (n : Node). input < n.input) before = grind (arith, elements, later, grown.late, grown.joined) in
+        let none = is-later before input number beyond in
+        grind (arith, common_steps, map-append, none, is, stored.inside, stored.input, same)
 
     pub made : IsMade states layers input list old new number
-    made = record { numbered = made-number; grows = made-grows; last = made-last }
-
--- a number that is remembered is of no later input
-pub remembered-last : (states : ℕ) (layers : List Layer) (nodes : List Node) (input : ℕ) (list : List ℕ) (number n : ℕ) → IsNumberOf states layers nodes input list number → All (λ (x : Node). input < x.input) nodes → n + 1 ≡ length nodes
-remembered-last states layers nodes input list number n is later = absurd (is-later nodes input number later is.inside is.at)
-
--- a node that equals the key of this number is stored there
-pub stored-listed : (keys : List Node) (number : ℕ) (node key : Node) → slice_get keys number ≡ Some key → same_node node key ≡ true → IsStored keys node number
-stored-listed keys number node key at same =
-    grind (arith, common_steps, slice_get_within keys number key at, get_or_from_slice_get keys number key key at, and_parts, bytes_eq-Decides, eqb-true)
+    made = record {
+      numbered = made-number;
+      grows = record {
+        known = record { few = few; nodes = brought.nodes; numbers = remembers };
+        more = grown.more ++ brought.more;
+        joined = brought.joined ∙ ap (λ xs. xs ++ brought.more) grown.joined ∙ append_assoc old.nodes.keys grown.more brought.more;
+        late = grind (arith, elements, grown.late, brought.late);
+        begun = brought.begun;
+      };
+      last = made-last put;
+    }
 
 -- where no element passes a test, the place of the first that does is behind them all
-position-none : {X : Type 0} (p : X → Bool) (xs : List X) → list_any p xs ≡ false → position_or_len p xs ≡ length xs
-position-none p [] none = refl
-position-none p (x ∷ xs) none = grind (arith, position-none p xs)
-
--- a node whose number is in the limit leaves them in the limit
-pub few-inserted : (keys keys' : List Node) (node : Node) (index : ℕ) → keys' ≡ insert_key same_node keys node → index ≡ position_or_len (same_node node) keys → length keys ≤ node_limit → index < node_limit → length keys' ≤ node_limit
-few-inserted keys keys' node index inserted place few low = grind (arith, common_steps, position-none)
+pub position_none : {X : Type 0} (p : X → Bool) (xs : List X) → list_any p xs ≡ false → position_or_len p xs ≡ length xs
+position_none p [] none = refl
+position_none p (x ∷ xs) none = grind (arith, position_none p xs)
 
 -- where a node's entries stand
 pub listed-at : (nodes : List Node) (k : ℕ) (d : Node) → k < length nodes → node_at (entries_in nodes) k ≡ (slice_index_or nodes k d).entries
@@ -426,38 +382,16 @@ length-listed nodes = length-map nodes (λ (n : Node). n.entries)
 
 -- the last layer leaves states
 pub layer-last : (states : ℕ) (layers : List Layer) (input : ℕ) (d : Layer) → Fit states layers → input + 1 ≡ length layers → IsLayer (slice_index_or layers input d) states
-layer-last states layers input d fit last =
-    let none : drop (input + 1) layers ≡ [] = nil_from_length (drop (input + 1) layers) (length-drop (input + 1) layers ∙ omega (arith, last)) in
-    let fits : Fit states (slice_index_or layers input d ∷ drop (input + 1) layers) = subst (Fit states) (drop_more layers input d (omega (arith, last))) (fit-drop states layers input fit) in
-    subst (λ ls. IsLayer (slice_index_or layers input d) (count_of states ls)) none fits.0
+layer-last states (layer ∷ []) zero d fit last = fit.0
+layer-last states (layer ∷ layers) (suc input) d fit last = layer-last states layers input d fit.1 (omega (arith, last))
+layer-last states layers input d fit last = absurd (omega (arith, last))
 
 -- any other leaves tails of the next
 pub layer-before : (states : ℕ) (layers : List Layer) (input : ℕ) (d e : Layer) → Fit states layers → input + 1 < length layers → IsLayer (slice_index_or layers input d) (length (slice_index_or layers (input + 1) e).tails.items)
-layer-before states layers input d e fit more =
-    let fits : Fit states (slice_index_or layers input d ∷ drop (input + 1) layers) = subst (Fit states) (drop_more layers input d (omega (arith, more))) (fit-drop states layers input fit) in
-    subst (λ ls. IsLayer (slice_index_or layers input d) (count_of states ls)) (drop_more layers (input + 1) e more) fits.0
+layer-before states (layer ∷ next ∷ layers) zero d e fit more = fit.0
+layer-before states (layer ∷ next ∷ layers) (suc input) d e fit more = rw (add-one (suc input)) (rw (add-one input) at (layer-before states (next ∷ layers) input d e fit.1 (omega (arith, more))))
+layer-before states layers input d e fit more = absurd (omega (arith, more))
 
 -- for which there is room
 pub layer-room : (states : ℕ) (layers : List Layer) (room input : ℕ) (d : Layer) → AreFit states layers room → input + 1 < length layers → IsLayer (slice_index_or layers input d) room
 layer-room states layers room input d fit more = grind (arith, elements, layer-before states layers input d d fit.fit more, fit.few (input + 1) d more)
-
--- the tails of all rows are those of the first layer
-pub tails-first : (states : ℕ) (layers : List Layer) (numbers : List ℕ) → 0 < length layers → All (λ n. n < count_of states layers) numbers → AreTailsAt layers 0 numbers
-tails-first states layers numbers some inside = grind arith
-
--- before the first input nothing was given
-pub IsLeft-first : (states : ℕ) (layers : List Layer) (give : List ℕ → ℕ) (list : List ℕ) → ((rest : List ℕ) → length rest ≡ length layers → give rest ≡ outcome layers list rest) → IsLeft states layers give 0 list
-IsLeft-first states layers give list same = record {
-  beginning = [];
-  long = refl;
-  below = All-nil (λ s. s < states);
-  same = λ rest long low. same rest (omega (arith, long));
-}
-
--- no nodes begin nowhere
-pub AreBegun-none : (states depth : ℕ) (give : List ℕ → ℕ) (nodes : List Node) → nodes ≡ [] → AreBegun states depth give nodes
-AreBegun-none states depth give nodes none k l = absurd (omega (arith, l, ap length none))
-
--- a node's width, wherever it is looked at
-pub nodes-wide : (states depth : ℕ) (nodes : List Node) → AreNodes states depth nodes → All (λ (node : Entries). length node ≡ states) (entries_in nodes)
-nodes-wide states depth nodes are k d l = rw (get_or_default (entries_in nodes) k d [] l) (are.each k (omega (arith, l, length-listed nodes))).wide

@@ -2,7 +2,7 @@
 use Rattle.std.proofs.Common.{◌≡◌, ℕ, zero, suc, drop, replicate, ◌+◌, ◌-◌, ◌<◌, ◌≤◌, List, [], ◌∷◌, ◌++◌, length, sym, ap, inl, inr, arith}
 use Rattle.std.specs.Prelude.{slice_index_or}
 use Rattle.std.proofs.lemmas.Bool.{cases_eq, cases_lt}
-use Rattle.std.proofs.lemmas.List.{length-append, length-replicate, get_or-replicate, get_or_append_left, get_or-append_right, get_or_push, nil_from_length}
+use Rattle.std.proofs.lemmas.List.{get_or-replicate, get_or_append_left, get_or-append_right, get_or_push, nil_from_length}
 
 -- what holds of each and of one more, holds of each of those with it
 pub each-push : {X : Type 0} (d : X) (P : ℕ → X → Type 0) (xs : List X) (x : X) (n : ℕ) → length xs ≡ n → ((k : ℕ) → k < n → P k (slice_index_or xs k d)) → P n x → (k : ℕ) → k < n + 1 → P k (slice_index_or (xs ++ x ∷ []) k d)
@@ -22,9 +22,6 @@ each-filled d P xs x n m count less each filled k l =
           rw (get_or-append_right xs (replicate (m - length xs) x) n k d count high, get_or-replicate (m - length xs) (k - n) x d (omega (arith, count, high, l)))
           (filled k (omega (arith, high)) l)
     ]
-
-pub length-filled : {X : Type 0} (xs : List X) (x : X) (m : ℕ) → length xs ≤ m → length (xs ++ replicate (m - length xs) x) ≡ m
-length-filled xs x m less = omega (arith, length-append xs (replicate (m - length xs) x), length-replicate (m - length xs) x, less)
 
 -- so many elements of a list, one by one
 abbrev pub firsts : {X : Type 0} → X → ℕ → List X → List X

@@ -1,10 +1,9 @@
 -- Runs of equal numbers.
-use Rattle.std.proofs.Common.{◌≡◌, ◌∙◌, ℕ, ◌+◌, ◌-◌, ◌*◌, ◌<◌, ◌≤◌, max, Bool, true, false, List, [], ◌∷◌, ◌++◌, length, replicate, append-nil, append_assoc, refl, sym, ap, arith}
-use Rattle.std.specs.Prelude.{◌==◌, ◌&&◌, if◌then◌else◌}
+use Rattle.std.proofs.Common.{◌≡◌, ◌∙◌, ℕ, ◌+◌, ◌-◌, ◌*◌, ◌<◌, ◌≤◌, Bool, true, false, List, [], ◌∷◌, ◌++◌, length, replicate, append-nil, append_assoc, refl, sym, ap, arith}
+use Rattle.std.specs.Prelude.{◌==◌, ◌&&◌}
 use Rattle.std.specs.Bool.{Decides}
 use Rattle.std.specs.Cmp.Lexicographic.{pointwise}
 use Rattle.std.specs.Str.{bytes_eq}
-use Rattle.std.proofs.lemmas.Bool.{eqb-true}
 use Rattle.std.proofs.lemmas.Bool.Decides.{Decides-and, Decides-eqb, Decides-like, nat_tests, same_from_decides}
 use Rattle.std.proofs.lemmas.List.{replicate_more}
 use Rattle.std.proofs.lemmas.Slice.Eq.{bytes_eq-Decides, slice_eq-Decides}
@@ -17,21 +16,17 @@ spread-runs from place n [] before =
     let more : place + 1 - from ≡ place - from + 1 = omega arith in
     rw (more, ← replicate_more (place - from) n) (append-nil _)
 spread-runs from place n (m ∷ numbers) before =
-    by (n == m) refl (spread-runs from (place + 1) m numbers (omega arith)) (spread-runs (place + 1) (place + 1) m numbers (omega arith))
-  where
-    by : (b : Bool) → (n == m) ≡ b → spread_from from (runs_from (place + 1) (m ∷ numbers)) ≡ replicate (place + 1 - from) m ++ m ∷ numbers
-        → spread_from (place + 1) (runs_from (place + 1) (m ∷ numbers)) ≡ replicate (place + 1 - (place + 1)) m ++ m ∷ numbers
-        → spread_from from (if b then runs_from (place + 1) (m ∷ numbers) else (record { number = n; until = place + 1 } ∷ runs_from (place + 1) (m ∷ numbers))) ≡ replicate (place - from) n ++ n ∷ m ∷ numbers
-    by true same earlier later =
-        let equal : n ≡ m = eqb-true n m same in
-        let more : place + 1 - from ≡ place - from + 1 = omega arith in
-        rw equal (earlier ∙ ap (λ xs. xs ++ m ∷ numbers) (ap (λ k. replicate k m) more ∙ sym (replicate_more (place - from) m)) ∙ append_assoc (replicate (place - from) m) (m ∷ []) (m ∷ numbers))
-    by false other earlier later =
-        let more : place + 1 - from ≡ place - from + 1 = omega arith in
-        let next : max from (place + 1) ≡ place + 1 = omega arith in
-        let none : place + 1 - (place + 1) ≡ 0 = omega arith in
-        let rest : spread_from (place + 1) (runs_from (place + 1) (m ∷ numbers)) ≡ m ∷ numbers = later ∙ ap (λ k. replicate k m ++ m ∷ numbers) none in
-        rw (more, next, rest, ← replicate_more (place - from) n) (append_assoc (replicate (place - from) n) (n ∷ []) (m ∷ numbers))
+    let more : place + 1 - from ≡ place - from + 1 = omega arith in
+    let none : place + 1 - (place + 1) ≡ 0 = omega arith in
+    grind (
+      arith,
+      spread-runs from (place + 1) m numbers (omega arith),
+      spread-runs (place + 1) (place + 1) m numbers (omega arith),
+      more,
+      none,
+      replicate_more (place - from) n,
+      append_assoc (replicate (place - from) n) (n ∷ []) (m ∷ numbers),
+    )
 
 -- numbers come back from their runs
 pub spread-runs_from : (numbers : List ℕ) → spread_from 0 (runs_from 0 numbers) ≡ numbers

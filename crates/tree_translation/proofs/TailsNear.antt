@@ -1,5 +1,5 @@
 -- Words of bits tell which states a tail lets be the input, and alike bits which it treats alike.
-use Rattle.std.proofs.Common.{◌≡◌, ℕ, ◌+◌, ◌*◌, ◌/◌, ◌%◌, ◌<◌, ◌≤◌, false, List, [], ◌∷◌, ◌++◌, All, Option, None, get_or, length, sym, ap, refl, ◌∙◌, ◌-◌, arith}
+use Rattle.std.proofs.Common.{◌≡◌, ℕ, ◌+◌, ◌*◌, ◌/◌, ◌%◌, ◌<◌, ◌≤◌, false, List, [], ◌∷◌, ◌++◌, All, Option, None, get_or, length, sym, refl, ◌∙◌, ◌-◌, arith}
 use Rattle.std.specs.Prelude.{◌==◌}
 use Rattle.std.specs.Int.{bit_at}
 use Rattle.std.proofs.lemmas.List.{get_or_default}
@@ -18,17 +18,18 @@ pub lets-read : (layer : Layer) (number : ℕ) (tail : Tail) (set : Option (List
     → tail ≡ get_or layer.tails.items number tail → set ≡ get_or layer.sets.items tail.set set
     → (state : ℕ) → allows set state ≡ lets layer number state
 lets-read layer number tail set sets inside is there state =
-    let none : Tail = record { set = 0; rest = 0 } in
-    let same : tail ≡ get_or layer.tails.items number none = is ∙ get_or_default layer.tails.items number tail none inside in
-    let room : tail.set < length layer.sets.items = rw (← is) at (sets number tail inside) in
-    let read : set ≡ get_or layer.sets.items tail.set None = there ∙ get_or_default layer.sets.items tail.set set None room in
-    ap (λ s. allows s state) read ∙ ap (λ (t : Tail). allows (get_or layer.sets.items t.set None) state) same
+    grind (
+      arith,
+      sets number tail inside,
+      get_or_default layer.tails.items number tail (record { set = 0; rest = 0 }) inside,
+      get_or_default layer.sets.items tail.set set None,
+    )
 
 -- a tail with no bit of a block lets none of its states be the input
 pub lets-none : (layer : Layer) (number block state : ℕ) → ((bit : ℕ) → bit < 64 → (bit_at 0 bit == 1) ≡ lets layer number (64 * block + bit)) → state / 64 ≡ block → lets layer number state ≡ false
 lets-none layer number block state bits same =
     let place : 64 * block + state % 64 ≡ state = omega (arith, same) in
-    ap (lets layer number) (sym place) ∙ sym (bits (state % 64) (omega arith)) ∙ ap (λ b. b == 1) (bit_at-zero (state % 64))
+    grind (arith, bits (state % 64), bit_at-zero (state % 64), place)
 
 -- a tail with alike bits treats their states alike
 pub alike-bits : (layer : Layer) (number state count word : ℕ) → ((bit : ℕ) → bit < 64 → (bit_at word bit == 1) ≡ lets layer number (64 * (state / 64) + bit)) → state % 64 + count ≤ 64
@@ -36,12 +37,7 @@ pub alike-bits : (layer : Layer) (number state count word : ℕ) → ((bit : ℕ
 alike-bits layer number state count word bits room alike s low high =
     let place : 64 * (state / 64) + state % 64 ≡ state = omega arith in
     let there : 64 * (state / 64) + (state % 64 + (s - state)) ≡ s = omega (arith, low) in
-    sym (bit s (state % 64 + (s - state)) (omega (arith, low, high, room)) there)
-    ∙ ap (λ b. b == 1) (alike (s - state) (omega (arith, low, high)))
-    ∙ bit state (state % 64) (omega arith) place
-  where
-    bit : (t b : ℕ) → b < 64 → 64 * (state / 64) + b ≡ t → (bit_at word b == 1) ≡ lets layer number t
-    bit t b l e = bits b l ∙ ap (lets layer number) e
+    grind (arith, bits (state % 64 + (s - state)), bits (state % 64), alike (s - state), place, there)
 
 -- what leaves a block of states alone may be left out
 pub near-more : (layer : Layer) (block : ℕ) (list near : List ℕ) (number : ℕ) → number < length layer.tails.items → AreNear layer block list near → AreNear layer block (list ++ number ∷ []) (near ++ number ∷ [])

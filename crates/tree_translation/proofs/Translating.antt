@@ -1,7 +1,7 @@
 -- A table's rows, and the inputs of its tree.
-use Rattle.std.proofs.Common.{◌≡◌, ℕ, suc, ◌+◌, ◌*◌, ◌-◌, ◌<◌, ◌≤◌, Bool, true, cond, List, [], ◌∷◌, length, slice_index, Option, Some, None, unwrap_or, refl, sym, ap, subst, ◌∙◌, arith}
-use Rattle.std.specs.Prelude.{All, slice_index_or, find}
-use Rattle.std.specs.Option.{option_map, option_or}
+use Rattle.std.proofs.Common.{◌≡◌, ℕ, suc, ◌+◌, ◌*◌, ◌-◌, ◌<◌, ◌≤◌, true, cond, List, [], ◌∷◌, length, slice_index, Option, Some, None, unwrap_or, refl, sym, ap, subst, ◌∙◌, arith}
+use Rattle.std.specs.Prelude.{All, slice_index_or}
+use Rattle.std.specs.Option.{option_or}
 use Rattle.std.proofs.lemmas.Bool.{and_from, eq-eqb}
 use Rattle.worlds.specs.Step.{nine_zeros}
 use Rattle.table_symmetry.specs.declared.expansion.Expanded.{Expanded}
@@ -15,8 +15,8 @@ use Rattle.tree_translation.specs.declared.layers.Layer.{Layer}
 use Rattle.decision_tree.specs.Kept.{IsKeptTree, nodes_in, tree_of_kept}
 use Rattle.tree_translation.specs.Layers.{AreLayersOf, all_allow, asked, result_of}
 use Rattle.tree_translation.specs.Translation.{DoTable, Does, DoesRows, Translates, first_some, last_of, neighbors_of, order_of, outcome, rows_give}
-use Rattle.decision_tree.specs.Tree.{Entries, Tree, inputs_of, is_quiescent, is_sound, leads, next, places_of}
-use Rattle.decision_tree.specs.TreeLaws.{inputs-below, leads-width}
+use Rattle.decision_tree.specs.Tree.{Entries, Tree, inputs_of, is_sound, leads, places_of}
+use Rattle.decision_tree.specs.TreeLaws.{leads-width}
 use Rattle.decision_tree.proofs.Shared.KeptNodes.{none-past}
 use Rattle.std.proofs.lemmas.List.{get_or_default}
 use Rattle.tree_translation.proofs.NodeLists.{firsts, firsts-all}
@@ -25,10 +25,9 @@ use Rattle.tree_translation.proofs.NodeLists.{firsts, firsts-all}
 first_some-pairs : {X Y : Type 0} (f : X → Option ℕ) (g : Y → Option ℕ) (xs : List X) (ys : List Y) → length xs ≡ length ys
     → ((k : ℕ) (d : X) (e : Y) → k < length ys → f (slice_index_or xs k d) ≡ g (slice_index_or ys k e)) → first_some f xs ≡ first_some g ys
 first_some-pairs f g [] [] count each = refl
-first_some-pairs f g [] (y ∷ ys) count each = absurd (omega (arith, count))
-first_some-pairs f g (x ∷ xs) [] count each = absurd (omega (arith, count))
 first_some-pairs f g (x ∷ xs) (y ∷ ys) count each =
     λ i. option_or (each 0 x y (omega arith) i) (first_some-pairs f g xs ys (omega (arith, count)) (λ k d e l. each (suc k) d e (omega (arith, l))) i)
+first_some-pairs f g xs ys count each = absurd (omega (arith, count))
 
 -- what the tails of rows do, the rows do
 pub rows-outcome : (states : ℕ) (order : List (Option ℕ)) (rows : List Expanded) (layers : List Layer) (numbers inputs : List ℕ)
@@ -66,7 +65,7 @@ last-input : (neighborhood : Neighborhood) (around : List ℕ) → last_of (inpu
 last-input neighborhood around = grind arith
 
 -- there is an input for each place of the order
-as_many : (neighborhood : Neighborhood) (around : List ℕ) → length (inputs_of (neighbors_of neighborhood) around) ≡ length (order_of neighborhood)
+pub as_many : (neighborhood : Neighborhood) (around : List ℕ) → length (inputs_of (neighbors_of neighborhood) around) ≡ length (order_of neighborhood)
 as_many neighborhood around = grind arith
 
 pub places-many : (neighborhood : Neighborhood) → length (places_of (neighbors_of neighborhood)) ≡ length (order_of neighborhood)
@@ -84,33 +83,18 @@ first-alike neighborhood [] around full = refl
 first-alike neighborhood (row ∷ rows) around full =
     let others : All (λ (r : Expanded). length r.inputs ≡ length (table_rule.places_of neighborhood) + 1) rows = λ k d l. full (suc k) d (omega (arith, l)) in
     rw (asked-have neighborhood row.inputs around (full 0 row (omega arith)), first-alike neighborhood rows around others)
-    (by (all_have row.inputs (table_rule.inputs_of neighborhood around)))
-  where
-    by : (b : Bool)
-        → option_or (cond b (Some row.result) None) (first_match rows (table_rule.inputs_of neighborhood around)) ≡ option_map
-        (λ (r : Expanded). r.result) (cond b (Some row) (find (λ (r : Expanded). all_have r.inputs (table_rule.inputs_of neighborhood around))
-        rows))
-    by b = grind arith
+    (grind arith)
 
 -- what the rows of a table give is its next state
 pub rows-next : (table : Table) (rows : List Expanded) → AreExpanded table rows → (around : List ℕ)
     → rows_give (order_of table.neighborhood) rows (inputs_of (neighbors_of table.neighborhood) around) ≡ table_rule.next table around
 rows-next table rows are around = rw (first-alike table.neighborhood rows around are.full, last-input table.neighborhood around) (are.first around)
 
--- so it is what nodes give that do what the rows do
-pub next-rows : (table : Table) (rows : List Expanded) (nodes : List Entries) → 0 < table.states → DoesRows table.states (order_of table.neighborhood) rows nodes
-    → AreExpanded table rows → (around : List ℕ) → All (λ s. s < table.states) around → next (tree_for table nodes) around ≡ table_rule.next table around
-next-rows table rows nodes some does are around low =
-    does.follows (inputs_of (neighbors_of table.neighborhood) around) (as_many table.neighborhood around) (inputs-below table.states (neighbors_of table.neighborhood) around some low)
-    ∙ rows-next table rows are around
-
 -- such a tree is quiescent as its table is, and leads to states
 pub sound-tree : (table : Table) (nodes : List Entries) → All (λ s. s < table.states) nine_zeros → DoTable table nodes → table_rule.next table nine_zeros ≡ 0
     → is_sound (tree_for table nodes) ≡ true
 sound-tree table nodes zeros does quiet =
-    and_from (is_quiescent (tree_for table nodes)) (leads table.states nodes (length nodes - 1) (places_of (neighbors_of table.neighborhood)))
-    (eq-eqb (next (tree_for table nodes) nine_zeros) 0 (does.same nine_zeros zeros ∙ quiet))
-    (does.leading (places_of (neighbors_of table.neighborhood)) (places-many table.neighborhood))
+    and_from _ _ (eq-eqb _ 0 (does.same nine_zeros zeros ∙ quiet)) (does.leading _ (places-many table.neighborhood))
 
 -- there is a root
 pub some-nodes : (table : Table) (nodes : List Entries) → 0 < table.states → DoTable table nodes → 1 ≤ length nodes

@@ -19,6 +19,7 @@ const NODE_LIMIT: usize = 1_000_000;
 ///
 /// TreeTooLarge comes where they would be more than 1,000,000, NoMemory only where memory was
 /// wanted.
+#[tactic(auto, using(crate::proofs::MadeNodes::position_none, std::proofs::lemmas::Grind::common_steps))]
 pub fn add_node(nodes: &mut IndexSet<Node>, node: Node) -> Result<u32, TreeFault>
     requires few { length nodes.old.keys ≤ node_limit }
     ensures stored { IfOk result (λ number. IsStored nodes.new.keys node number) }

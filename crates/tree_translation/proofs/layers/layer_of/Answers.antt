@@ -4,8 +4,7 @@ use Rattle.std.proofs.lemmas.Option.{get_or_from_slice_get, slice_get_within}
 use Rattle.std.proofs.lemmas.Slice.Zip.{zip_end, zip_turn}
 use Rattle.tree_translation.specs.declared.layers.Tail.{Tail}
 use Rattle.tree_translation.specs.Layers.{asked_at, same_asked}
-use Rattle.tree_translation.proofs.Asked.{asked-same}
-use Rattle.tree_translation.proofs.Layering.{AreTails-more, IsLayer-all, IsLayerOf-all, IsNextTail, grown-insert_key, same_from_tail, same_tail}
+use Rattle.tree_translation.proofs.Layering.{AreTails-more, IsNextTail, all-rows, asked-same, grown-insert_key, same_from_tail, same_tail}
 use Rattle.tree_translation.proofs.layers.layer_of.Goals as goal
 
 pub loop-row-preserved : goal.loop-row-preserved
@@ -35,21 +34,13 @@ loop-row-preserved c =
     c.loop-row.invariant next in
     rw (c.in_ok-push.ensures.items, length_push c.loop-row.yielded (c.in-Some.row, c.in-Some.rest)) more
 
-pub returns-clause-rows : goal.returns-clause-rows
-returns-clause-rows c =
+pub returns : goal.returns
+returns c =
     let same = c.into_iter-row-iterator.ensures.into_iter_gives in
-    let all = zip_end c.args.rows.now c.args.rests.now c.loop-row.yielded c.into_iter-row-iterator.result c.loop-row.row-iterator c.next.new.self None
+    let ended = zip_end c.args.rows.now c.args.rests.now c.loop-row.yielded c.into_iter-row-iterator.result c.loop-row.row-iterator c.next.new.self None
     (ap (λ z. z.a.rest.now) same ∙ ap (λ z. z.rest.now) c.zip-row-items.ensures.first ∙ c.iter.ensures.rest)
     (ap (λ z. z.b.rest.now) same ∙ c.zip-row-items.ensures.second.0) c.loop-row.yielded_by refl c.in-None.ensures.steps in
     let sets : c.in_ok-sets.sets.items ≡ c.loop-row.sets.keys = search rules in
     let keys : c.in_ok-tails.tails.items ≡ c.loop-row.tails.keys = search rules in
-    IsLayerOf-all c.args.place c.args.rows.now c.args.rests.now (record { sets = c.in_ok-sets.sets; tails = c.in_ok-tails.tails })
-    c.loop-row.sets.keys c.loop-row.tails.keys c.loop-row.numbers.items (length c.loop-row.yielded) sets keys
-    (omega (arith, all, c.requires.rests)) c.loop-row.invariant
-
-pub returns-clause-layer : goal.returns-clause-layer
-returns-clause-layer c = λ count below.
-    let sets : c.in_ok-sets.sets.items ≡ c.loop-row.sets.keys = search rules in
-    let keys : c.in_ok-tails.tails.items ≡ c.loop-row.tails.keys = search rules in
-    IsLayer-all c.args.place c.args.rows.now c.args.rests.now (record { sets = c.in_ok-sets.sets; tails = c.in_ok-tails.tails }) c.loop-row.sets.keys
-    c.loop-row.tails.keys c.loop-row.numbers.items (length c.loop-row.yielded) count sets keys below c.loop-row.invariant
+    let all = all-rows (record { sets = c.in_ok-sets.sets; tails = c.in_ok-tails.tails }) c.loop-row.invariant sets keys (omega (arith, ended, c.requires.rests)) in
+    record { layer = all.fits; rows = all.of }

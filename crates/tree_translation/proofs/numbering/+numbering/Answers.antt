@@ -8,12 +8,13 @@ use Rattle.tree_translation.specs.Near.{AreAlike}
 use Rattle.tree_translation.specs.Numbering.{AreFit, AreTailsAt, Grows, IsEntry, IsNumberOf}
 use Rattle.tree_translation.specs.Translation.{LeftOf}
 use Rattle.tree_translation.proofs.Apart.{passed-on}
-use Rattle.tree_translation.proofs.MadeNodes.{Grows-behind, IsEntry-append, IsMade, NeedsTooMany-behind, layer-before, layer-last, layer-room, made, remembered-last, too-many}
+use Rattle.tree_translation.proofs.MadeNodes.{Grows-behind, IsEntry-append, is-later, NeedsTooMany-behind, layer-before, layer-last, layer-room, made, too-many}
+use Rattle.std.proofs.lemmas.Grind.{common_steps}
 use Rattle.std.proofs.lemmas.List.{get_or_default}
-use Rattle.tree_translation.proofs.NodeLists.{each-filled, length-filled}
+use Rattle.tree_translation.proofs.NodeLists.{each-filled}
 use Rattle.tree_translation.proofs.TailsNear.{LeftOf-alike}
 use Rattle.tree_translation.proofs.numbering.+numbering.Goals as goal
-use Rattle.tree_translation.proofs.numbering.+numbering.Goals.{entries_of-After-index-layers-input, entries_of-In_ok-left, number_of-In_ok-insert}
+use Rattle.tree_translation.proofs.numbering.+numbering.Goals.{entries_of-After-index-layers-input, entries_of-In_ok-left}
 
 pub entries_of-leaf_of-requires-clause-layer : goal.entries_of-leaf_of-requires-clause-layer
 entries_of-leaf_of-requires-clause-layer t c =
@@ -63,8 +64,7 @@ entries_of-returns-in_err-number-clause-large t c =
     let is = left t (goal.at.entries_of-returns-in_err-number-clause-large t c).In_ok-left c.loop-state.state (omega arith) (omega arith) in
     passed-on c.from_residual-in_err-number.result c.in_err-number.field-0.0 _ c.from_residual-in_err-number.ensures.1
     (λ e. NeedsTooMany-behind c.args.states c.args.layers.now c.args.input c.args.list.now c.in_ok-left.left.items c.loop-state.state c.args.found.now c.loop-state.found
-    (omega arith) c.loop-state-test.true is
-    c.loop-state.invariant.grows (rw c.deref-in-loop-state-2.ensures.value at (c.in_err-number.ensures.large e)))
+    (omega arith) c.loop-state-test.true is c.loop-state.invariant.grows (rw c.deref-in-loop-state-2.ensures.value at (c.in_err-number.ensures.large e)))
 
 pub entries_of-loop-state-preserved : goal.entries_of-loop-state-preserved
 entries_of-loop-state-preserved t c =
@@ -86,10 +86,10 @@ entries_of-loop-state-preserved t c =
     rw grown.joined (IsEntry-append mid.nodes.keys grown.more states layers input list s (slice_index entries s) (omega (arith, c.requires.fit.some)) (known.each s l)) in
     let here : (s : ℕ) → state ≤ s → s < until → IsEntry states layers new.nodes.keys input list s number = λ s low high. record { left = c.in_ok-left.left.items; is = is s low high; number_of = numbered } in
     record {
-      width = rw c.in_ok-fill_up.ensures (length-filled entries number until (omega (arith, known.width)));
+      width = grind (arith, common_steps, known.width, c.in_ok-fill_up.ensures);
       each = λ s l. rw c.in_ok-fill_up.ensures (each-filled 0
           (λ s e. IsEntry states layers new.nodes.keys input list s e) entries number state until known.width (omega arith) before here s l);
-      grows = Grows-behind states layers input list c.in_ok-left.left.items state c.args.found.now mid new (omega arith) c.loop-state-test.true (is state (omega arith) (omega arith)) known.grows grown;
+      grows = Grows-behind states layers input list c.in_ok-left.left.items state c.args.found.now mid (omega arith) c.loop-state-test.true (is state (omega arith) (omega arith)) known.grows new grown;
       clear = c.in_ok-number.ensures.clear;
       near = λ ne. let same : until / 64 ≡ state / 64 = omega arith in rw same c.in_ok-near.ensures;
       until = omega arith;
@@ -102,8 +102,9 @@ number_of-returns-in-Some-clause-number t c =
     rw (c.in_ok-to_vec.ensures.items_if_clones_equal (λ x y h. h)) at (c.requires.known.numbers key c.in-Some.number.now (sym c.in-Some.ensures.value))
 
 pub number_of-returns-in-Some-clause-last : goal.number_of-returns-in-Some-clause-last
-number_of-returns-in-Some-clause-last t c =
-    remembered-last c.args.states c.args.layers.now c.args.found.now.nodes.keys c.args.input c.args.list.now c.in-Some.number.now c.in-Some.number.now (number_of-returns-in-Some-clause-number t c)
+number_of-returns-in-Some-clause-last t c = λ later.
+    let is = number_of-returns-in-Some-clause-number t c in
+    absurd (is-later c.args.found.now.nodes.keys c.args.input c.in-Some.number.now later is.inside is.at)
 
 pub number_of-returns-in_err-number-clause-large : goal.number_of-returns-in_err-number-clause-large
 number_of-returns-in_err-number-clause-large t c =
@@ -114,25 +115,14 @@ number_of-returns-in_err-number-clause-large t c =
     (rw c.in_ok-of.ensures entries.entries) refl
     (c.in_err-number.ensures.large e))
 
--- what comes with the node of the list
-new_node : (t : ℕ) (c : number_of-In_ok-insert t)
-    → IsMade c.args.states c.args.layers.now c.args.input c.args.list.now c.args.found.now (record { numbers = c.insert.new.self; nodes = c.add_node.new.nodes }) c.in_ok-number.number
-new_node t c =
+pub number_of-returns : goal.number_of-returns
+number_of-returns t c =
     let node : Node = record { input = c.args.input; entries = c.in_ok-of.field-0 } in
     let key : Listed = record { input = c.args.input; numbers = c.in_ok-to_vec.field-0 } in
     let new : Found = record { numbers = c.insert.new.self; nodes = c.add_node.new.nodes } in
     let entries = c.in_ok-entries.ensures in
     let stored = c.in_ok-number.ensures in
-    made c.args.states c.args.layers.now (length c.args.marks.now) c.args.input c.args.list.now c.args.found.now c.entries_of.new.found node c.requires.fit c.requires.tails entries.grows
-    (rw c.in_ok-of.ensures entries.entries) refl
-    new c.in_ok-number.number key refl (c.in_ok-to_vec.ensures.items_if_clones_equal
-    (λ x y h. h)) stored.stored stored.grown stored.apart stored.few c.in_ok-insert.ensures.updates.0
-
-pub number_of-returns-clause-number : goal.number_of-returns-clause-number
-number_of-returns-clause-number t c = (new_node t (goal.at.number_of-returns-clause-number t c).In_ok-insert).numbered
-
-pub number_of-returns-clause-grows : goal.number_of-returns-clause-grows
-number_of-returns-clause-grows t c = (new_node t (goal.at.number_of-returns-clause-grows t c).In_ok-insert).grows
-
-pub number_of-returns-clause-last : goal.number_of-returns-clause-last
-number_of-returns-clause-last t c = (new_node t (goal.at.number_of-returns-clause-last t c).In_ok-insert).last
+    let comes = made c.args.states c.args.layers.now (length c.args.marks.now) c.args.input c.args.list.now c.args.found.now c.entries_of.new.found node c.requires.fit
+    c.requires.tails entries.grows (rw c.in_ok-of.ensures entries.entries) refl new c.in_ok-number.number key refl
+    (c.in_ok-to_vec.ensures.items_if_clones_equal (λ x y h. h)) stored.stored stored.grown stored.apart stored.few c.in_ok-insert.ensures.updates.0 in
+    record { number = comes.numbered; grows = comes.grows; last = comes.last; clear = entries.clear; large = tt }

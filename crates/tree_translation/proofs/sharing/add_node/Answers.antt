@@ -1,11 +1,20 @@
 use Rattle.std.proofs.Common.{arith}
-use Rattle.tree_translation.proofs.MadeNodes.{few-inserted, stored-listed}
+use Rattle.std.proofs.lemmas.Bool.{and_parts, eqb-true}
+use Rattle.std.proofs.lemmas.Grind.{common_steps}
+use Rattle.std.proofs.lemmas.Option.{get_or_from_slice_get, slice_get_within}
+use Rattle.std.proofs.lemmas.Slice.Eq.{bytes_eq-Decides}
 use Rattle.tree_translation.proofs.sharing.add_node.Goals as goal
 
 pub returns-clause-stored : goal.returns-clause-stored
 returns-clause-stored c =
     let stored = c.in_ok-index.ensures.stored in
-    stored-listed c.insert_full.new.self.keys c.in_ok-index.index c.args.node stored.0 stored.1 stored.2
-
-pub returns-clause-few : goal.returns-clause-few
-returns-clause-few c = few-inserted c.args.nodes.now.keys c.insert_full.new.self.keys c.args.node c.in_ok-index.index c.in_ok-index.ensures.keys c.in_ok-index.ensures.index c.requires.few (omega arith)
+    let keys = c.insert_full.new.self.keys in
+    grind (
+      arith,
+      common_steps,
+      slice_get_within keys c.in_ok-index.index stored.0 stored.1,
+      get_or_from_slice_get keys c.in_ok-index.index stored.0 stored.0 stored.1,
+      and_parts,
+      bytes_eq-Decides,
+      eqb-true,
+    )

@@ -1,13 +1,12 @@
-use Rattle.std.proofs.Common.{◌≡◌, ◌+◌, length, ℕ, arith}
-use Rattle.std.proofs.lemmas.Result.{IfOk-weaker}
+use Rattle.std.proofs.Common.{◌≡◌, ◌∙◌, ◌+◌, length, ℕ, arith}
 use Rattle.tree_translation.specs.NodesNeeded.{NeedsNodes}
 use Rattle.tree_translation.specs.Starts.{NeedStarts}
 use Rattle.tree_translation.specs.Numbering.{entries_in}
-use Rattle.tree_translation.specs.Translation.{DoesRows, node_limit, order_of, rows_give}
-use Rattle.decision_tree.specs.Tree.{Tree}
+use Rattle.tree_translation.specs.Translation.{DoesRows, neighbors_of, node_limit, order_of, rows_give}
+use Rattle.decision_tree.specs.TreeLaws.{inputs-below}
 use Rattle.tree_translation.proofs.Apart.{passed-on}
 use Rattle.tree_translation.proofs.Beginnings.{needs-nodes}
-use Rattle.tree_translation.proofs.Translating.{next-rows}
+use Rattle.tree_translation.proofs.Translating.{as_many, rows-next}
 use Rattle.tree_translation.proofs.translation.from_rows.Goals as goal
 use Rattle.tree_translation.proofs.translation.from_rows.Goals.{After-states}
 
@@ -32,15 +31,15 @@ finish-requires-clause-does c =
     record {
       width = rw c.as_slice.ensures.keys (rw c.states.ensures.count at c.in_ok-nodes.ensures.width);
       leading = does.leading;
-      same = next-rows table c.args.rows.items (entries_in c.as_slice.result.now) (omega (arith, c.states.ensures.count, c.states.ensures.at_least)) does c.requires;
+      same = λ around low.
+          let below = inputs-below table.states (neighbors_of table.neighborhood) around (omega (arith, c.states.ensures.count, c.states.ensures.at_least)) low in
+          does.follows _ (as_many table.neighborhood around) below ∙ rows-next table c.args.rows.items c.requires around;
     }
 
 pub returns-clause-smallest : goal.returns-clause-smallest
 returns-clause-smallest c =
-    let table = c.args.table.now in
     let all = needs (goal.at.returns-clause-smallest c).After-states (length c.in_ok-nodes.nodes.keys) c.in_ok-nodes.ensures.needed in
-    IfOk-weaker c.finish.result (λ (tree : Tree). length tree.nodes ≡ length c.as_slice.result.now) (λ (tree : Tree). NeedsNodes table (length tree.nodes))
-    (λ tree same. rw (same, c.as_slice.ensures.keys) all) c.finish.ensures.nodes
+    grind (arith, all, c.finish.ensures.nodes, c.as_slice.ensures.keys)
 
 pub returns-in_err-nodes-clause-large : goal.returns-in_err-nodes-clause-large
 returns-in_err-nodes-clause-large c =

@@ -1,4 +1,5 @@
 use Rattle.std.proofs.Common.{Bool, false, refl, ◌≡◌, ◌<◌, ◌+◌, ◌-◌, ◌∙◌, List, [], length, sym, ap, subst, arith, rules}
+use Rattle.std.proofs.lemmas.List.{get_or_default}
 use Rattle.std.proofs.lemmas.List.Elements.{All-nil, All-replicate}
 use Rattle.tree_translation.specs.declared.listed.Node.{Node}
 use Rattle.tree_translation.specs.Layers.{AreLayersOf}
@@ -6,7 +7,7 @@ use Rattle.tree_translation.specs.Numbering.{IsLeft, entries_in}
 use Rattle.tree_translation.specs.Starts.{NeedStarts}
 use Rattle.tree_translation.specs.Translation.{node_limit, rows_give}
 use Rattle.tree_translation.proofs.Apart.{passed-on}
-use Rattle.tree_translation.proofs.MadeNodes.{AreBegun-none, IsLeft-first, length-listed, nodes-needed, nodes-wide, tails-first}
+use Rattle.tree_translation.proofs.MadeNodes.{length-listed, nodes-needed}
 use Rattle.tree_translation.proofs.Translating.{DoesRows-root, rows-outcome}
 use Rattle.tree_translation.proofs.translation.nodes_for.Goals as goal
 use Rattle.tree_translation.proofs.translation.nodes_for.Goals.{After-deref-2, In_ok-layers}
@@ -20,9 +21,12 @@ left : (c : After-deref-2) → AreLayersOf c.args.states c.args.order.now c.args
     → IsLeft c.args.states c.deref.result.now (rows_give c.args.order.now c.args.rows.items) 0 c.deref-2.result.now
 left c made =
     let give = rows_give c.args.order.now c.args.rows.items in
-    rw (c.deref.ensures.value, c.deref-2.ensures.value)
-    (IsLeft-first c.args.states c.in_ok-layers.layers.items give c.in_ok-layers.numbers.items
-    (λ rest long. sym (rows-outcome c.args.states c.args.order.now c.args.rows.items c.in_ok-layers.layers.items c.in_ok-layers.numbers.items rest made (long ∙ made.depth))))
+    rw (c.deref.ensures.value, c.deref-2.ensures.value) (record {
+      beginning = [];
+      long = refl;
+      below = All-nil (λ s. s < c.args.states);
+      same = λ rest long low. sym (rows-outcome c.args.states c.args.order.now c.args.rows.items c.in_ok-layers.layers.items c.in_ok-layers.numbers.items rest made (omega (arith, long, made.depth)));
+    })
 
 pub number_of-requires : goal.number_of-requires
 number_of-requires c =
@@ -30,8 +34,7 @@ number_of-requires c =
     let room : length c.as_mut_slice.result.now ≡ length c.args.rows.items = search (rules) in
     record {
       fit = rw (c.deref.ensures.value, room) (record { some = c.requires.some; at_most = c.requires.at_most; fit = made.fit; few = made.few });
-      tails = rw (c.deref.ensures.value, c.deref-2.ensures.value)
-          (tails-first c.args.states c.in_ok-layers.layers.items c.in_ok-layers.numbers.items (omega (arith, made.depth, c.requires.asked)) made.inside);
+      tails = rw (c.deref.ensures.value, c.deref-2.ensures.value) (grind (arith, made.depth, c.requires.asked, made.inside));
       clear = rw (c.as_mut_slice.ensures.value, c.in_ok-marks.ensures.items_if_clones_equal (λ y h. h))
           (All-replicate (λ (b : Bool). b ≡ false) c.len.result false refl);
       known = search (rules);
@@ -44,7 +47,7 @@ returns-in_err-number_of-clause-large c =
     let give = rows_give c.args.order.now c.args.rows.items in
     passed-on c.from_residual-in_err-number_of.result c.in_err-number_of.field-0.0 _ c.from_residual-in_err-number_of.ensures.1
     (λ e. subst (λ depth. NeedStarts c.args.states depth (λ k inputs. give inputs) 1 (node_limit + 1)) (ap length c.deref.ensures.value ∙ made.depth)
-    (c.in_err-number_of.ensures.large e give (AreBegun-none c.args.states (length c.deref.result.now) give c.new-2.result.keys (search (rules))) (left at.After-deref-2 made)))
+    (c.in_err-number_of.ensures.large e give (λ k l. absurd (omega (arith, l))) (left at.After-deref-2 made)))
 
 pub returns-clause-does : goal.returns-clause-does
 returns-clause-does c =
@@ -57,7 +60,9 @@ returns-clause-does c =
     (rw (root, c.deref.ensures.value, c.deref-2.ensures.value) at c.in_ok-number_of.ensures.number.does)
 
 pub returns-clause-width : goal.returns-clause-width
-returns-clause-width c = nodes-wide c.args.states (length c.deref.result.now) c.number_of.new.found.nodes.keys c.in_ok-number_of.ensures.grows.known.nodes
+returns-clause-width c = λ k d l.
+    let keys : List Node = c.number_of.new.found.nodes.keys in
+    rw (get_or_default (entries_in keys) k d [] l) (c.in_ok-number_of.ensures.grows.known.nodes.each k (omega (arith, l, length-listed keys))).wide
 
 pub returns-clause-needed : goal.returns-clause-needed
 returns-clause-needed c =
@@ -68,4 +73,4 @@ returns-clause-needed c =
     let keys : List Node = c.number_of.new.found.nodes.keys in
     subst (λ depth. NeedStarts c.args.states depth (λ k inputs. give inputs) 1 (length keys)) (ap length c.deref.ensures.value ∙ made.depth)
     (nodes-needed c.args.states (length c.deref.result.now) give keys grows.known.nodes
-    (grows.begun give (AreBegun-none c.args.states (length c.deref.result.now) give c.new-2.result.keys (search (rules))) (left at.After-deref-2 made)))
+    (grows.begun give (λ k l. absurd (omega (arith, l))) (left at.After-deref-2 made)))
