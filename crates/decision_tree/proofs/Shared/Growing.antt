@@ -2,6 +2,7 @@
 use Rattle.std.proofs.Common.{◌≡◌, ◌≢◌, ℕ, ◌+◌, ◌*◌, ◌-◌, ◌<◌, ◌≤◌, ◌==◌, ◌&&◌, Bool, true, List, [], ◌∷◌, ◌++◌, length, slice_index, nat_lt, EachIndex, below_more, inl, inr, refl, sym, ap, ◌∙◌, arith, length-append}
 use Rattle.std.proofs.lemmas.Bool.{and_parts, cases_eq}
 use Rattle.std.proofs.lemmas.Bool.Decides.{nat_tests}
+use Rattle.std.proofs.lemmas.Grind.{common_steps}
 use Rattle.std.specs.List.{list_all}
 use Rattle.std.proofs.lemmas.List.{get_or_append_left, get_or_push}
 use Rattle.std.proofs.Math.Seq.{get_or-append_seam}
@@ -124,9 +125,7 @@ kept-push head depths entries depth node limits kept next =
     record {
       filled = omega (arith, length-append entries node, longer, kept.filled, next.width, ap (λ k. k * n) longer);
       few = omega (arith, longer, next.room);
-      low = λ k h. below_more (λ m. slice_index (depths ++ depth ∷ []) m ≤ length (depths ++ depth ∷ [])) (length depths)
-          (λ m l. omega (arith, get_or_append_left depths (depth ∷ []) 0 m l, kept.low m l, longer))
-          (omega (arith, get_or_push depths depth 0 (length depths) refl, low, longer)) k (omega (arith, h, longer));
+      low = λ k h. grind (arith, common_steps, kept.low k, low, longer);
       leading = rw more (leading-push n depths nodes depth node (omega (arith, limits.at_least)) (length-nodes_in n (length depths) entries) kept.leading next.width next.fits);
       rooted = λ whole. get_or_push depths depth 0 (head.node_count - 1) (omega (arith, whole, longer)) ∙ next.rooted (sym longer ∙ whole);
     }

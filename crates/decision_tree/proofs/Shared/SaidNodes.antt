@@ -1,7 +1,7 @@
 -- The nodes that a section says: each leads to nodes one less deep, and the last is as deep as the root.
-use Rattle.std.proofs.Common.{◌≡◌, ◌∙◌, ℕ, ◌+◌, ◌-◌, ◌<◌, ◌≤◌, ◌==◌, Bool, true, false, List, [], ◌∷◌, ◌++◌, length, map, slice_index, Option, None, Some, Ok, Err, if◌then◌else◌, refl, sym, ap, subst, inl, inr, arith}
+use Rattle.std.proofs.Common.{◌≡◌, ℕ, ◌+◌, ◌-◌, ◌<◌, ◌≤◌, true, List, [], ◌∷◌, ◌++◌, length, map, slice_index, Option, None, Some, Ok, refl, sym, subst, inl, inr, arith}
 use Rattle.std.specs.Option.{option_map, option_map_or, ok_or}
-use Rattle.std.proofs.lemmas.Bool.{and_from, cases_lt, eqb-true}
+use Rattle.std.proofs.lemmas.Bool.{and_from, cases_lt}
 use Rattle.std.proofs.lemmas.Bool.Decides.{nat_tests}
 use Rattle.std.proofs.lemmas.Grind.{common_steps}
 use Rattle.std.proofs.lemmas.List.{length-map, map-append}
@@ -80,13 +80,7 @@ said-next head nodes line node h = grind arith
 
 -- nodes that more lines say
 said-from : (last : ℕ) (head : TreeHead) (nodes : List Node) (lines : List NumberedLine) (found : List Node) → AreSaid head nodes → nodes_from last head nodes lines ≡ Ok found → AreSaid head found × (length found ≡ head.node_count)
-said-from last head nodes [] found said h = by (length nodes == head.node_count) refl h
-  where
-    by : (b : Bool) → (length nodes == head.node_count) ≡ b → (if b then Ok nodes else Err (BadTree last)) ≡ Ok found → AreSaid head found × (length found ≡ head.node_count)
-    by true e ok =
-        let is : nodes ≡ found = cc in
-        (subst (AreSaid head) is said, ap length (sym is) ∙ eqb-true (length nodes) head.node_count e)
-    by false e ok = absurd cc
+said-from last head nodes [] found said h = grind (arith, nat_tests, said)
 said-from last head nodes (line ∷ lines) found said h =
     let more = then-ok (with_line head nodes line) (λ ns. nodes_from last head ns lines) found h in
     let node = map-some (λ (n : Node). nodes ++ n ∷ []) (node_of head nodes line.text) more.0 (some-ok (option_map (λ (n : Node). nodes ++ n ∷ []) (node_of head nodes line.text)) (BadTree line.number) more.0 more.1) in
@@ -110,9 +104,7 @@ found-enough last d (line ∷ lines) found enough h = by (descriptor_of line.tex
         → ((e : Described) → AreEnough e → head_from last e lines ≡ Ok found → (1 ≤ found.0.node_count) × (2 ≤ found.0.states))
         → (1 ≤ found.0.node_count) × (2 ≤ found.0.states)
     by None ok rest = grind (arith, enough.some, enough.two)
-    by (Some x) ok rest =
-        let e = then-ok (ok_or (describe d x.0 x.1) (BadTree line.number)) (λ e. head_from last e lines) found ok in
-        rest e.0 (described-enough d x.0 x.1 e.0 enough (some-ok (describe d x.0 x.1) (BadTree line.number) e.0 e.1)) e.2
+    by (Some x) ok rest = let said = λ (e : Described). described-enough d x.0 x.1 e enough in grind (arith, rest, said)
 
 -- a tree that a section says, by its head and its nodes
 pub record IsSaid (tree : Tree) : Type 0 where
