@@ -6,7 +6,6 @@ use Rattle.std.proofs.lemmas.Bool.Decides.{nat_tests}
 use Rattle.std.proofs.lemmas.List.{get_or_append_left}
 use Rattle.std.proofs.lemmas.List.Sums.{list_all-from_AllPass}
 use Rattle.tree_translation.specs.declared.layers.Layer.{Layer}
-use Rattle.tree_translation.specs.declared.layers.Tail.{Tail}
 use Rattle.tree_translation.specs.Layers.{IsLayer, lets, rest_at, result_of}
 use Rattle.tree_translation.specs.Translation.{AreLeaves, Does, LeftOf, first_some, outcome}
 use Rattle.decision_tree.specs.Tree.{Entries, follow, leads, node_at}
@@ -36,10 +35,7 @@ first-below : (layer : Layer) (states state : ℕ) (list : List ℕ) → IsLayer
     → state < states → unwrap_or (first_some (λ number. cond (lets layer number state) (Some (rest_at layer number)) None) list) state < states
 first-below layer states state [] fits inside low = low
 first-below layer states state (number ∷ list) fits inside low =
-    grind (arith, fits.rests number none (inside 0 0 (omega arith)), first-below layer states state list fits (λ k d l. inside (suc k) d (omega (arith, l))) low)
-  where
-    none : Tail
-    none = record { set = 0; rest = 0 }
+    grind (arith, fits.rests number (record { set = 0; rest = 0 }) (inside 0 0 (omega arith)), first-below layer states state list fits (λ k d l. inside (suc k) d (omega (arith, l))) low)
 
 pub leaves-below : (states : ℕ) (layer : Layer) (list leaf : List ℕ) → IsLayer layer states → All (λ n. n < length layer.tails.items) list → AreLeaves states layer list leaf → list_all (λ s. nat_lt s states) leaf ≡ true
 leaves-below states layer list leaf fits inside leaves =

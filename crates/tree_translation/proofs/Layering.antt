@@ -53,7 +53,7 @@ pub record IsNextTail (place : Option ℕ) (rows : List Expanded) (lasts : List 
   pub asks : (d : Expanded) → set ≡ asked_at place (get_or rows n d).inputs
   pub leaves : tail.rest ≡ get_or lasts n 0
 
-module _ (place : Option ℕ) (rows : List Expanded) (lasts : List ℕ) (sets more_sets : List (Option (List ℕ))) (tails more_tails : List Tail) (numbers : List ℕ) (n number : ℕ) (set : Option (List ℕ)) (tail : Tail)
+module _ {place : Option ℕ} {rows : List Expanded} {lasts : List ℕ} {sets more_sets : List (Option (List ℕ))} {tails more_tails : List Tail} {numbers : List ℕ} {n number : ℕ} {set : Option (List ℕ)} {tail : Tail}
     (old : AreTails place rows lasts sets tails numbers n) (next : IsNextTail place rows lasts sets more_sets tails more_tails n number set tail) where
   -- the tail of a row before
   tail-before : (k : ℕ) → k < n → get_or more_tails (get_or (numbers ++ number ∷ []) k 0) none_left ≡ get_or tails (get_or numbers k 0) none_left
@@ -75,9 +75,7 @@ module _ (place : Option ℕ) (rows : List Expanded) (lasts : List ℕ) (sets mo
     asks = λ k d h. below_more (λ j. get_or more_sets (get_or more_tails (get_or (numbers ++ number ∷ []) j 0) none_left).set None ≡ asked_at place (get_or rows j d).inputs) n
         (λ j l. grind (arith, common_steps, tail-before j l, next.set_grown, old.asks j d l, old.inside j 0, old.asking, old.count))
         (grind (arith, tail-here, next.set_there, next.asks d)) k h;
-    leaves = λ k h. below_more (λ j. (get_or more_tails (get_or (numbers ++ number ∷ []) j 0) none_left).rest ≡ get_or lasts j 0) n
-        (λ j l. grind (arith, tail-before j l, old.leaves j l))
-        (grind (arith, tail-here, next.leaves)) k h;
+    leaves = λ k h. grind (arith, tail-before k, tail-here, old.leaves k, next.leaves);
   }
 
 -- once all rows are there, it is the layer of the rows, and fits each count that is above what is left of them

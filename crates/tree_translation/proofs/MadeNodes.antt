@@ -1,5 +1,5 @@
 -- Lists of tails and the nodes that do what they do.
-use Rattle.std.proofs.Common.{◌≡◌, ◌≢◌, ◌∙◌, inl, inr, ℕ, zero, suc, ◌+◌, ◌-◌, ◌<◌, ◌≤◌, Bool, true, false, cond, nat_lt, List, [], ◌∷◌, ◌++◌, All, Some, length, drop, slice_index, slice_index_or, append-nil, append_assoc, below_more, refl, sym, ap, subst, add-one, arith}
+use Rattle.std.proofs.Common.{◌≡◌, ◌≢◌, ◌∙◌, inl, inr, ℕ, zero, suc, ◌+◌, ◌-◌, ◌<◌, ◌≤◌, Bool, false, cond, nat_lt, List, [], ◌∷◌, ◌++◌, All, Some, length, drop, slice_index, slice_index_or, append-nil, append_assoc, below_more, refl, sym, ap, subst, add-one, arith}
 use Rattle.std.specs.List.{IsDistinct, list_any, position_or_len}
 use Rattle.std.specs.HashMap.{get}
 use Rattle.std.proofs.lemmas.Bool.{and_from, and_parts, cases_eq, cases_order, eq-eqb, eqb-true}
@@ -25,9 +25,8 @@ use Rattle.tree_translation.proofs.Doing.{Does-append, Does-branch, Does-leaf, o
 
 -- nodes that differ in their numbers differ in their inputs or entries
 listed-apart : (nodes : List Node) → IsDistinct same_node nodes → (i j : ℕ) → i < j → j < length nodes → input_at nodes i ≡ input_at nodes j → node_at (entries_in nodes) i ≢ node_at (entries_in nodes) j
-listed-apart [] distinct i j l m inputs entries = absurd (omega (arith, m))
-listed-apart (key ∷ keys) distinct i j l m inputs entries =
-    grind (arith, common_steps, inputs, entries, apart_from_distinct same_node (key ∷ keys) i j key distinct l m, bytes_eq-Decides, eq-eqb, and_from)
+listed-apart nodes distinct i j l m inputs entries =
+    grind (arith, common_steps, inputs, entries, apart_from_distinct same_node nodes i j (record { input = 0; entries = [] }) distinct l m, bytes_eq-Decides, eq-eqb, and_from)
 
 -- what is followed from two nodes differs behind some rest
 pub record FollowsDiffer (states depth : ℕ) (nodes : List Node) (i j : ℕ) : Type 0 where
@@ -88,14 +87,12 @@ module _ (states depth : ℕ) (nodes : List Node) (are : AreNodes states depth n
 
   -- where more nodes come, a node still does what begins there
   IsBegun-append : (give : List ℕ → ℕ) (more : List Node) (k : ℕ) → k < length nodes → IsBegun states depth give nodes k → IsBegun states depth give (nodes ++ more) k
-  IsBegun-append give more k l begun =
-      let same : input_at (nodes ++ more) k ≡ input_at nodes k = grind (arith, common_steps, map-append) in
-      record {
-        beginning = begun.beginning;
-        long = begun.long ∙ sym same;
-        below = begun.below;
-        same = λ rest long low. begun.same rest (omega (arith, long, same)) low ∙ sym (follow-before more k rest l (omega (arith, long, same)) low);
-      }
+  IsBegun-append give more k l begun = record {
+    beginning = begun.beginning;
+    long = grind (arith, common_steps, map-append, begun.long);
+    below = begun.below;
+    same = λ rest long low. grind (arith, common_steps, map-append, begun.same rest, follow-before more k rest l);
+  }
 
   -- they stay nodes where one more of its input comes
   AreNodes-push : (node : Node) → IsNode states depth nodes node.input node.entries → IsDistinct same_node (nodes ++ node ∷ [])
@@ -150,11 +147,8 @@ module _ (states depth : ℕ) (give : List ℕ → ℕ) (nodes : List Node) (are
 -- more nodes change nothing of those before
 module _ (nodes more : List Node) where
   pub IsNumberOf-append : (states : ℕ) (layers : List Layer) (input : ℕ) (list : List ℕ) (number : ℕ) → 0 < states → IsNumberOf states layers nodes input list number → IsNumberOf states layers (nodes ++ more) input list number
-  IsNumberOf-append states layers input list number some is = record {
-    inside = omega (arith, is.inside, length-append nodes more);
-    at = grind (arith, common_steps, map-append, is.at, is.inside);
-    does = rw map-append (Does-append states (drop input layers) (entries_in nodes) (entries_in more) list number some is.does);
-  }
+  IsNumberOf-append states layers input list number some is =
+      grind (arith, common_steps, map-append, is.inside, is.at, Does-append states (drop input layers) (entries_in nodes) (entries_in more) list number some is.does)
 
   pub IsEntry-append : (states : ℕ) (layers : List Layer) (input : ℕ) (list : List ℕ) (s number : ℕ) → 0 < states → IsEntry states layers nodes input list s number → IsEntry states layers (nodes ++ more) input list s number
   IsEntry-append states layers input list s number some is =
@@ -278,12 +272,7 @@ module _ (states : ℕ) (layers : List Layer) (room input : ℕ) (list : List �
 
   -- the node is one of its input
   is-node : IsNode states (length layers) before node.input node.entries
-  is-node = record {
-    wide = are.width;
-    early = omega (arith, same, tails.there);
-    inside = λ s l m. (are.each (omega (arith, same, m)) s l).number_of.inside;
-    down = λ s l m. (are.each (omega (arith, same, m)) s l).number_of.at ∙ ap (λ n. n + 1) (sym same);
-  }
+  is-node = grind (arith, are.width, are.each, tails.there, same)
 
   nodes-with : IsDistinct same_node after → AreNodes states (length layers) after
   nodes-with apart = AreNodes-push states (length layers) before grown.known.nodes node is-node apart
@@ -338,15 +327,9 @@ module _ (states : ℕ) (layers : List Layer) (room input : ℕ) (list : List �
         (rw brought.joined (AreEntries-append before brought.more states layers input list node.entries some are)) stored
 
     remembers : (q : Listed) (n : ℕ) → get same_listed new.numbers q ≡ Some n → IsNumberOf states layers new.nodes.keys q.input q.numbers.items n
-    remembers q n is = elim (same_listed key q) as (λ b. same_listed key q ≡ b → IsNumberOf states layers new.nodes.keys q.input q.numbers.items n) [
-      | true ↦ λ e.
-          let this : n ≡ number = grind (arith, numbers q, is, e) in
-          let q_input : q.input ≡ input = grind (arith, eqb-true, key_input, e) in
-          let q_list : q.numbers.items ≡ list = grind (arith, and_parts, bytes_eq-Decides, key_list, e) in
-          rw (this, q_input, q_list) made-number
-      | false ↦
-          λ e. rw brought.joined (IsNumberOf-append before brought.more states layers q.input q.numbers.items n some (grown.known.numbers q n (grind (arith, numbers q, is, e))))
-    ] refl
+    remembers q n is =
+        let old = λ (h : get same_listed mid.numbers q ≡ Some n). IsNumberOf-append before brought.more states layers q.input q.numbers.items n some (grown.known.numbers q n h) in
+        grind (arith, numbers q, is, eqb-true, and_parts, bytes_eq-Decides, key_input, key_list, made-number, old, brought.joined)
 
     -- where no node is of this input yet, it is the last
     made-last : IsGrownBy mid.nodes.keys node new.nodes.keys → All (λ (n : Node). input < n.input) old.nodes.keys → number + 1 ≡ length new.nodes.keys

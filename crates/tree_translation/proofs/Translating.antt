@@ -1,5 +1,5 @@
 -- A table's rows, and the inputs of its tree.
-use Rattle.std.proofs.Common.{◌≡◌, ℕ, suc, ◌+◌, ◌*◌, ◌-◌, ◌<◌, ◌≤◌, true, cond, List, [], ◌∷◌, length, slice_index, Option, Some, None, unwrap_or, refl, sym, ap, subst, ◌∙◌, arith}
+use Rattle.std.proofs.Common.{◌≡◌, ℕ, suc, ◌+◌, ◌*◌, ◌-◌, ◌<◌, ◌≤◌, true, cond, List, [], ◌∷◌, length, slice_index, Option, Some, None, unwrap_or, refl, ap, subst, ◌∙◌, arith}
 use Rattle.std.specs.Prelude.{All, slice_index_or}
 use Rattle.std.specs.Option.{option_or}
 use Rattle.std.proofs.lemmas.Bool.{and_from, eq-eqb}
@@ -39,10 +39,9 @@ rows-outcome states order rows layers numbers inputs are long =
 -- what the root does, the rows do
 pub DoesRows-root : (states : ℕ) (order : List (Option ℕ)) (rows : List Expanded) (layers : List Layer) (numbers : List ℕ) (nodes : List Entries)
     → AreLayersOf states order rows layers numbers → Does states layers nodes numbers (length nodes - 1) → DoesRows states order rows nodes
-DoesRows-root states order rows layers numbers nodes are does = record {
-  leading = λ inputs long. does.leading inputs (long ∙ sym are.depth);
-  follows = λ inputs long low. does.follows inputs (long ∙ sym are.depth) low ∙ rows-outcome states order rows layers numbers inputs are long;
-}
+DoesRows-root states order rows layers numbers nodes are does =
+    let same = λ (inputs : List ℕ). rows-outcome states order rows layers numbers inputs are in
+    grind (arith, does.leading, does.follows, are.depth, same)
 
 -- a row with these sets is asked the same in the order of the tree and in that of the table
 abbrev IsAskedAlike : Neighborhood → List ℕ → List (List ℕ) → Type 0

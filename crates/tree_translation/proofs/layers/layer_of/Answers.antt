@@ -29,10 +29,7 @@ loop-row-preserved c =
       asks = λ d. c.asked.ensures ∙ ap (λ row. asked_at c.args.place row.inputs) (turn.2 d);
       leaves = turn.3 0;
     } in
-    let more = AreTails-more c.args.place c.args.rows.now c.args.rests.now c.loop-row.sets.keys c.number_in.new.keys.keys c.loop-row.tails.keys
-    c.number_in-in-loop-row.new.keys.keys c.loop-row.numbers.items (length c.loop-row.yielded) c.in_ok-number.number c.asked.result tail
-    c.loop-row.invariant next in
-    rw (c.in_ok-push.ensures.items, length_push c.loop-row.yielded (c.in-Some.row, c.in-Some.rest)) more
+    rw (c.in_ok-push.ensures.items, length_push c.loop-row.yielded (c.in-Some.row, c.in-Some.rest)) (AreTails-more c.loop-row.invariant next)
 
 pub returns : goal.returns
 returns c =
