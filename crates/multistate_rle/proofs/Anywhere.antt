@@ -1,4 +1,5 @@
 -- The faults of a body, wherever its pattern lies.
+use Rattle.std.proofs.Common.{arith}
 use Rattle.std.proofs.Common.{◌≡◌, ◌≢◌, ◌⊎◌, ◌∙◌, ℕ, Bool, true, false, cond, List, [], ◌∷◌, Result, Ok, Err, nat_lt, refl, sym, ap, inl, inr, IsOk}
 use Rattle.std.specs.List.{flat_map, list_all}
 use Rattle.basics.specs.Results.{◌>>=◌}
@@ -25,8 +26,7 @@ IsRead (Ok runs) = Unit {0}
 IsRead (Err e) = IsUnplaced e
 
 onto-read : (run : Run) (read : Result (List Run) RleFault) → IsRead read → IsRead (onto run read)
-onto-read run (Ok runs) h = tt
-onto-read run (Err e) h = h
+onto-read run read h = grind (arith)
 
 runs-read : (n : ℕ) (ss : List Symbol) → IsRead (runs_from n ss)
 runs-read n [] = tt
@@ -63,9 +63,7 @@ pub record IsFault (e : RleFault) (ss : List Symbol) : Type 0 where
   pub none : unplaced e ≡ NoMemory → HasNoFaultAnywhere ss
 
 fault-told : (here : Result World RleFault) (e : RleFault) → (e ≡ NoMemory) ⊎ (here ≡ Err e) → IsOk here ⊎ (here ≡ Err CellOutOfRange) → unplaced e ≡ NoMemory
-fault-told here e (inl want) told = ap unplaced want
-fault-told here e (inr is) (inl ok) = absurd cc
-fault-told here e (inr is) (inr out) = ap unplaced (let same : e ≡ CellOutOfRange = cc in same)
+fault-told here e h told = grind (arith)
 
 pub fault-anywhere : (origin : Origin) (ss : List Symbol) (e : RleFault) → (e ≡ NoMemory) ⊎ (drawn_by origin ss ≡ Err e) → (e ≡ NoMemory → IsOk (drawn_by origin ss)) → IsFault e ss
 fault-anywhere origin ss e given sound = by (drawn-told ss) given

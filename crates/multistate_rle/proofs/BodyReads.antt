@@ -48,20 +48,14 @@ record Says (b : ℕ) (s : Symbol) : Type 0 where
   symbol : (offset : ℕ) → plain_symbol (record { offset = offset; byte = b }) ≡ s
 
 digit-says : (b : ℕ) → IsDigit b → Says b (symbol.Digit (b - 48))
-digit-says b h =
-    let low : 48 ≤ b = h.0 in
-    let high : b ≤ 57 = h.1 in
-    record { visible = (omega arith, omega arith); plain = grind (arith, nat_tests); symbol = λ offset. grind (arith, nat_tests) }
+digit-says b h = grind (arith, nat_tests)
 
 letter-says : (b s : ℕ) → 65 ≤ b → b ≤ 88 → b ≡ 64 + s → Says b (symbol.Cell s)
-letter-says b s low high is =
-    let state : b - 64 ≡ s = omega arith in
-    record { visible = (omega arith, omega arith); plain = grind (arith, nat_tests); symbol = λ offset. grind (arith, nat_tests) }
+letter-says b s low high is = grind (arith, nat_tests)
 
 one-read : (n b : ℕ) (s : Symbol) (rest : List ℕ) (r : Result (List Run) RleFault) → Says b s
     → ((offset : ℕ) → runs_from n (s ∷ symbols (solid_from offset rest)) ≡ r) → ReadsAs n (b ∷ rest) r
-one-read n b s rest r h read offset =
-    ap (runs_from n) (plain-one offset b rest h.visible h.plain ∙ ap (λ c. c ∷ symbols (solid_from (offset + 1) rest)) (h.symbol offset)) ∙ read (offset + 1)
+one-read n b s rest r h read offset = grind (arith, plain-one)
 
 -- digits make the number behind them
 digits-read : (ds : List ℕ) (n : ℕ) (rest : List ℕ) (r : Result (List Run) RleFault) → AllByRecursion IsDigit ds → ReadsAs (digits_value_after 10 n ds) rest r → ReadsAs n (ds ++ rest) r

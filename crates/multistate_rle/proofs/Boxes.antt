@@ -1,5 +1,5 @@
 -- The bounding box of a world is the box of its live cells.
-use Rattle.std.proofs.Common.{◌≡◌, ◌∙◌, ap, refl, sym, subst, ℕ, ◌<◌, ◌≤◌, ◌^◌, Bool, true, false, cond, List, [], ◌∷◌, map, Option, None, Some, ℤ, pos, arith, neg_ℤ, ◌≤ℤ◌}
+use Rattle.std.proofs.Common.{◌≡◌, ◌∙◌, ap, refl, sym, subst, ℕ, ◌<◌, ◌≤◌, ◌^◌, Bool, cond, List, [], ◌∷◌, map, Option, None, Some, ℤ, pos, arith, neg_ℤ, ◌≤ℤ◌}
 use Rattle.std.specs.Prelude.{MatchOption}
 use Rattle.std.specs.List.{AllByRecursion}
 use Rattle.std.proofs.lemmas.Int.{ints}
@@ -20,16 +20,10 @@ record Touches (w : World) (b : Bounds) : Type 0 where
   touched_bottom : (x : ℤ) × (0 < cell w x b.bottom)
 
 either : (t : Bool) (a b : ℤ) (P : ℤ → Type 0) → P a → P b → P (cond t a b)
-either true a b P p q = p
-either false a b P p q = q
+either t a b P p q = grind (arith, ints)
 
 grown-touches : (w : World) (b : Bounds) (x y : ℤ) → Touches w b → 0 < cell w x y → Touches w (grown (Some b) x y)
-grown-touches w b x y h live = record {
-  touched_left = either _ x b.left (λ z. (y : ℤ) × (0 < cell w z y)) (y, live) h.touched_left;
-  touched_right = either _ b.right x (λ z. (y : ℤ) × (0 < cell w z y)) h.touched_right (y, live);
-  touched_top = either _ y b.top (λ z. (x : ℤ) × (0 < cell w x z)) (x, live) h.touched_top;
-  touched_bottom = either _ b.bottom y (λ z. (x : ℤ) × (0 < cell w x z)) h.touched_bottom (x, live);
-}
+grown-touches w b x y h live = grind (arith, ints, either)
 
 in_grown : (b : Bounds) (x y x' y' : ℤ) → IsInBox b x' y' → IsInBox (grown (Some b) x y) x' y'
 in_grown b x y x' y' h = grind (arith, ints)

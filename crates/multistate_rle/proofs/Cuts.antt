@@ -17,9 +17,7 @@ others byte bs h = all_tested (IsOther byte) (λ b. not (b == byte)) bs (λ b k.
 
 -- bytes with the first of this kind between two parts
 pub cut-first : (byte : ℕ) (xs ys : List ℕ) → AllByRecursion (IsOther byte) xs → cut_at byte (xs ++ byte ∷ ys) ≡ Some (xs, ys)
-cut-first byte xs ys h =
-    let same : (byte == byte) ≡ true = grind (arith, nat_tests) in
-    rw (position-at (λ b. b == byte) xs byte ys h same) (λ i. Some (take-append_seam xs (byte ∷ ys) i, drop-append-add xs (byte ∷ ys) 1 i))
+cut-first byte xs ys h = grind (arith, nat_tests, position-at, take-append_seam, drop-append-add)
 
 -- bytes with none of this kind
 pub cut-none : (byte : ℕ) (xs : List ℕ) → AllByRecursion (IsOther byte) xs → cut_at byte xs ≡ None

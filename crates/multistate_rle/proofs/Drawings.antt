@@ -1,13 +1,13 @@
 -- A drawing of the runs that were read: at its end it tells what their strips tell.
-use Rattle.std.proofs.Common.{◌≡◌, ℕ, ◌+◌, ◌*◌, ◌≤◌, ◌==◌, ◌&&◌, Bool, true, false, cond, max, inl, inr, pos, ◌+ℤ◌, List, [], ◌∷◌, ◌++◌, Result, Ok, Err, nat_le, nat_lt, refl, sym, ap, ap₂, subst, ◌∙◌, arith, tests, append_assoc, append-nil, IsOk}
+use Rattle.std.proofs.lemmas.Bool.Decides.{nat_tests}
+use Rattle.std.proofs.Common.{◌≡◌, ℕ, ◌+◌, ◌*◌, ◌≤◌, ◌==◌, ◌&&◌, Bool, true, false, cond, max, pos, ◌+ℤ◌, List, [], ◌∷◌, ◌++◌, Result, Ok, Err, nat_le, refl, sym, ap, ap₂, ◌∙◌, arith, tests, append_assoc, append-nil, IsOk}
 use Rattle.std.specs.List.{flat_map, list_all}
 use Rattle.std.proofs.lemmas.Bool.{and_parts, cond-true}
 use Rattle.std.proofs.lemmas.List.{flat_map_more}
 use Rattle.std.proofs.lemmas.List.Folds.{list_all-append}
 use Rattle.std.proofs.lemmas.List.Sums.{sum_by_push}
 use Rattle.std.proofs.Math.Bool.{and-true}
-use Rattle.worlds.specs.Lay.{lay}
-use Rattle.worlds.specs.World.{World, blank}
+use Rattle.worlds.specs.World.{World}
 use Rattle.basics.specs.Results.{◌>>=◌, Gives}
 use Rattle.multistate_rle.specs.declared.comment.Origin.{Origin}
 use Rattle.multistate_rle.specs.declared.fault.RleFault.{RleFault}
@@ -45,8 +45,7 @@ front_behind front n s = record front { column = front.column + n; strips = cond
 -- whether the strips lie in the plane, with one strip more
 inside-push : (origin : Origin) (strips : List Strip) (strip : Strip)
     → list_all (lies_inside origin) (strips ++ strip ∷ []) ≡ (list_all (lies_inside origin) strips && lies_inside origin strip)
-inside-push origin strips strip =
-    list_all-append (lies_inside origin) strips (strip ∷ []) ∙ ap (λ b. list_all (lies_inside origin) strips && b) (and-true (lies_inside origin strip))
+inside-push origin strips strip = grind (arith, nat_tests, list_all-append, and-true)
 
 -- one strip more, of which the drawing counts the cells as far as it can
 follows-strip : {origin : Origin} {d : Drawn} {front : Front} (m n s : ℕ) → IsPlaced origin → n ≡ capped m → Follows origin d front
@@ -95,8 +94,7 @@ follows-cells {origin} {d} {front} m n s placed some h =
 
 -- the same where a growth may have been refused
 follows-like : {origin : Origin} {d e : Drawn} {front : Front} → IsLike d e → Follows origin d front → Follows origin e front
-follows-like (inl same) h = rw same h
-follows-like (inr same) h = rw same (record { begun = h.begun; row = h.row; column = h.column; live = h.live; inside = h.inside; cells = λ whole few all. absurd cc })
+follows-like k h = grind (arith)
 
 -- what the end of a drawing tells, where it may have been given up, against what it tells whole
 pub record IsEnd (now all : Result World RleFault) : Type 0 where
@@ -107,23 +105,13 @@ abbrev outcome : Bool → Bool → Bool → World → Result World RleFault
 outcome many inside whole w = cond many (Err TooManyLive) (cond inside (cond whole (Ok w) (Err NoMemory)) (Err CellOutOfRange))
 
 wanted : (all r : Result World RleFault) → Gives NoMemory r (Err NoMemory) → Gives NoMemory r all
-wanted all (Ok w) h = absurd cc
-wanted all (Err e) (inl h) = inl h
-wanted all (Err e) (inr h) = inl cc
+wanted all r h = grind (arith)
 
 ends : (many inside whole : Bool) (v w : World) → (many ≡ false → inside ≡ true → whole ≡ true → v ≡ w) → IsEnd (outcome many inside whole v) (outcome many inside true w)
-ends true inside whole v w same = record { gives = λ r h. h; sound = λ h. absurd cc }
-ends false false whole v w same = record { gives = λ r h. h; sound = λ h. absurd cc }
-ends false true true v w same = record { gives = λ r h. subst (λ u. Gives NoMemory r (Ok u)) (same refl refl refl) h; sound = λ h. refl }
-ends false true false v w same = record { gives = wanted (Ok w); sound = λ h. refl }
+ends many inside whole v w same = grind (arith, wanted)
 
 follows-end : {origin : Origin} {d : Drawn} {front : Front} → Follows origin d front → IsEnd (world_drawn d) (world_of origin front.strips)
-follows-end {origin} {d} {front} h =
-    let live : d.live ≡ capped (live_count front.strips) = h.live in
-    let many : nat_lt 16777216 d.live ≡ nat_lt 16777216 (live_count front.strips) = grind (arith, tests) in
-    subst (λ o. IsEnd o (world_of origin front.strips)) (sym (λ i. outcome (many i) (h.inside i) d.is_whole (lay d.cells blank)))
-    (ends _ _ d.is_whole (lay d.cells blank) (lay (flat_map (cells_of origin) front.strips) blank)
-    (λ few inside whole. ap (λ cells. lay cells blank) (h.cells whole (let m : live_count front.strips ≤ 16777216 = grind (arith, tests) in m) inside)))
+follows-end {origin} {d} {front} h = grind (arith, nat_tests, tests, ends)
 
 -- what the symbols that are left draw from there on, where the digits before them write n
 abbrev pub drawn_on : Origin → Front → ℕ → List Symbol → Result World RleFault
@@ -149,14 +137,11 @@ begun origin all = record {
 -- one digit later
 pub begun-digit : {origin : Origin} {all left : List Symbol} {d : Drawn} {count : ℕ} (next digit : ℕ) (rest : List Symbol)
     → next ≡ capped (count * 10 + digit) → left ≡ Digit digit ∷ rest → IsBegun origin all d count left → IsBegun origin all d next rest
-begun-digit {origin} {all} {left} {d} {count} next digit rest step is h =
-    let counted : count ≡ capped h.digits = h.counted in
-    record { digits = h.digits * 10 + digit; front = h.front; counted = omega arith; follows = h.follows; drawn = h.drawn ∙ ap (drawn_on origin h.front h.digits) is }
+begun-digit {origin} {all} {left} {d} {count} next digit rest step is h = grind (arith)
 
 -- one more run that is read is one more run for what is made of the runs
 first_run : (run : Run) (read : Result (List Run) RleFault) (made : List Run → Result World RleFault) → (onto run read >>= made) ≡ (read >>= λ runs. made (run ∷ runs))
-first_run run (Ok runs) made = refl
-first_run run (Err e) made = refl
+first_run run read made = grind (arith)
 
 -- one end of rows later
 pub begun-rows : {origin : Origin} {all left : List Symbol} {d : Drawn} {count : ℕ} (e : Drawn) (m : ℕ) (rest : List Symbol)
@@ -176,12 +161,7 @@ begun-rows {origin} {all} {left} {d} {count} e m rest some is ended h =
 -- the strips of a run of cells and those behind it
 strips-behind : (front : Front) (n s : ℕ) (runs : List Run)
     → front.strips ++ strips_from front.row front.column (Cells n s ∷ runs) ≡ (front_behind front n s).strips ++ strips_from front.row (front.column + n) runs
-strips-behind front n s runs =
-    let later : List Strip = strips_from front.row (front.column + n) runs in
-    elim (s == 0) as (λ b. front.strips ++ cond b later (strip_from front n s ∷ later) ≡ cond b front.strips (front.strips ++ strip_from front n s ∷ []) ++ later) [
-      | true ↦ refl
-      | false ↦ sym (append_assoc front.strips (strip_from front n s ∷ []) later)
-    ]
+strips-behind front n s runs = grind (arith, nat_tests, append_assoc)
 
 -- one run of cells later
 pub begun-cells : {origin : Origin} {all left : List Symbol} {d : Drawn} {count : ℕ} (e : Drawn) (m s : ℕ) (rest : List Symbol)
@@ -201,8 +181,4 @@ begun-cells {origin} {all} {left} {d} {count} e m s rest placed some is like h =
 -- where no runs are left, the drawing tells what the symbols draw
 pub begun-end : {origin : Origin} {all left : List Symbol} {d : Drawn} {count : ℕ}
     → ((n : ℕ) → runs_from n left ≡ Ok []) → IsBegun origin all d count left → IsEnd (world_drawn d) (drawn_by origin all)
-begun-end {origin} {all} {left} {d} {count} none h =
-    let told : drawn_by origin all ≡ world_of origin h.front.strips =
-    h.drawn ∙ ap (λ read. read >>= λ runs. world_of origin (h.front.strips ++ strips_from h.front.row h.front.column runs)) (none h.digits)
-    ∙ ap (world_of origin) (append-nil h.front.strips) in
-    subst (IsEnd (world_drawn d)) (sym told) (follows-end h.follows)
+begun-end {origin} {all} {left} {d} {count} none h = grind (arith, append-nil, follows-end)

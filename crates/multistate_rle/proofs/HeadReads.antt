@@ -1,7 +1,7 @@
 -- The two lines before a written body read back: the comment gives the place and the generation, the header the name.
 use Rattle.std.proofs.Common.{◌≡◌, ◌∙◌, sym, ap, ap₂, refl, ℕ, suc, ◌-◌, ◌^◌, ◌<◌, ◌≤◌, ◌==◌, ◌||◌, Bool, true, false, not, min, ℤ, pos, List, [], ◌∷◌, ◌++◌, length, arith, Some, decimal, append-nil, negsuc, neg_ℤ, ◌≤ℤ◌, ◌<ℤ◌, codes, fold, Ok, option_map, bytes_eq}
 use Rattle.std.specs.Fmt.{signed_decimal}
-use Rattle.std.specs.List.{All, AllByRecursion, list_all, slice_split}
+use Rattle.std.specs.List.{All, AllByRecursion, list_all}
 use Rattle.std.proofs.lemmas.Bool.{or_from}
 use Rattle.std.proofs.lemmas.Grind.{fold-append}
 use Rattle.std.proofs.lemmas.Int.{ints}
@@ -38,16 +38,13 @@ pub record IsCoordinate (z : ℤ) : Type 0 where
   pub high : z <ℤ pos (2 ^ 61)
 
 signed-bytes : (z : ℤ) → IsCoordinate z → AllByRecursion IsNumeric (signed_decimal z)
-signed-bytes (pos n) h = let high = h.high in decimal-numeric n (omega (arith, ints, high))
-signed-bytes (negsuc n) h = let low = h.low in ((omega arith, omega arith), decimal-numeric (suc n) (omega (arith, ints, low)))
+signed-bytes z h = grind (arith, ints, decimal-numeric)
 
 signed-some : (z : ℤ) → IsCoordinate z → 0 < length (signed_decimal z)
-signed-some (pos n) h = let high = h.high in decimal-some n (omega (arith, ints, high))
-signed-some (negsuc n) h = omega arith
+signed-some z h = grind (arith, ints, decimal-some)
 
 signed_of-digits : (ds : List ℕ) (n : ℕ) → 0 < length ds → AllByRecursion IsDigit ds → number_of ds ≡ Some n → signed_of ds ≡ Some (pos n)
-signed_of-digits [] n some h is = absurd (omega arith)
-signed_of-digits (d ∷ ds) n some h is = let low : 48 ≤ d = h.0.0 in rw (differs d 45 (λ e. omega arith)) (ap (option_map pos) is)
+signed_of-digits ds n some h is = grind (arith, differs)
 
 signed_of-signed : (z : ℤ) → IsCoordinate z → signed_of (signed_decimal z) ≡ Some z
 signed_of-signed (pos n) h =
@@ -67,9 +64,7 @@ abbrev place_part : ℤ → ℤ → List ℕ
 place_part x y = codes "Pos=" ++ signed_decimal x ++ 44 ∷ signed_decimal y
 
 place-reads : (x y : ℤ) → IsCoordinate x → IsCoordinate y → place_in (place_part x y) ≡ Some (x, y)
-place-reads x y h k =
-    rw (cut-first 44 (signed_decimal x) (signed_decimal y) (numeric-other 44 (signed_decimal x) (omega arith) (signed-bytes x h)))
-    (rw (coordinate-reads x h) (rw (coordinate-reads y k) refl))
+place-reads x y h k = grind (arith, ints, cut-first, numeric-other, signed-bytes, coordinate-reads)
 
 generation-reads : (n : ℕ) → n < 2 ^ 64 → generation_in (codes "Gen=" ++ decimal n) ≡ Some n
 generation-reads n h = rw (number_of-decimal n h) (ap (λ m. Some m) (let e : min (2 ^ 64 - 1) n ≡ n = omega arith in e))
@@ -111,12 +106,7 @@ generation-visible n h = visible-text (codes "Gen=") (decimal n) refl (numeric-v
 
 comment-parts : (x y : ℤ) (n : ℕ) → IsCoordinate x → IsCoordinate y → n < 2 ^ 64 → ◌≡◌ {A = List (List ℕ)} (parts (32 ∷ (place_part x y ++ 32 ∷ (codes "Gen=" ++ decimal n)))) (place_part x y ∷ (codes "Gen=" ++ decimal n) ∷ [])
 comment-parts x y n h k small =
-    let open_end : joined_behind true (place_part x y) ≡ false =
-    fold-append (λ (before : Bool) (b : ℕ). is_sign b) true (codes "Pos=" ++ signed_decimal x) (44 ∷ signed_decimal y)
-    ∙ joined-numeric (is_sign 44) (signed_decimal y) (signed-some y k) (signed-bytes y k) in
-    ap (slice_split is_blank) (tight-words (place_part x y) (codes "en=" ++ decimal n) 71 (place-visible x y h k) open_end (generation-visible n small) refl)
-    ∙ slice_split_at is_blank (place_part x y) 32 (codes "Gen=" ++ decimal n) (solids (place_part x y) (place-visible x y h k)) refl
-    ∙ ap (λ parts. place_part x y ∷ parts) (slice_split_none is_blank (codes "Gen=" ++ decimal n) (solids (codes "Gen=" ++ decimal n) (generation-visible n small)))
+    grind (arith, ints, fold-append, joined-numeric, signed-some, signed-bytes, tight-words, place-visible, generation-visible, slice_split_at, solids, slice_split_none)
 
 -- the first line
 abbrev pub comment_line : ℤ → ℤ → ℕ → List ℕ
@@ -128,12 +118,10 @@ comment-reads x y n h k small = ap (fold after_part plain_origin) (comment-parts
 
 -- a field with a blank on either side of its sign
 value-reads : (key front value : List ℕ) → AllByRecursion (IsOther 61) front → bytes_eq (trim front) key ≡ true → AllByRecursion IsVisible value → value_in key (front ++ 61 ∷ 32 ∷ value) ≡ Some value
-value-reads key front value h is k =
-    rw (cut-first 61 front (32 ∷ value) h) (rw is (ap (λ bs. Some bs) (trim-blank value k)))
+value-reads key front value h is k = grind (arith, cut-first, trim-blank)
 
 size-reads : (key front : List ℕ) (n : ℕ) → AllByRecursion (IsOther 61) front → bytes_eq (trim front) key ≡ true → n < 2 ^ 64 → size_in key (front ++ 61 ∷ 32 ∷ decimal n) ≡ Some n
-size-reads key front n h is small =
-    rw (value-reads key front (decimal n) h is (numeric-visible _ (decimal-numeric n small))) (number_of-decimal n small)
+size-reads key front n h is small = grind (arith, value-reads, numeric-visible, decimal-numeric, number_of-decimal)
 
 -- the second line
 abbrev pub header_line : ℕ → ℕ → List ℕ → List ℕ

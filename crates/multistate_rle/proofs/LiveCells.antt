@@ -1,5 +1,6 @@
 -- The live cells of a world: their order, their tokens, and the world that they make.
-use Rattle.std.proofs.Common.{◌≡◌, ◌∙◌, sym, ap, subst, refl, ℕ, zero, suc, ◌+◌, ◌-◌, ◌<◌, ◌≤◌, ◌^◌, true, false, cond, ℤ, pos, ◌+ℤ◌, List, [], ◌∷◌, length, map, arith, None, Some, T, inl, inr, ◌⊎◌, ◌≤ℤ◌, ◌<ℤ◌, unwrap_or, Ordering, Less, Equal, Greater}
+use Rattle.std.proofs.lemmas.Int.{ints}
+use Rattle.std.proofs.Common.{◌≡◌, ◌∙◌, sym, ap, subst, refl, ℕ, ◌+◌, ◌-◌, ◌<◌, ◌≤◌, ◌^◌, true, false, cond, ℤ, pos, ◌+ℤ◌, List, [], ◌∷◌, length, map, arith, None, Some, T, inl, inr, ◌⊎◌, ◌≤ℤ◌, ◌<ℤ◌, unwrap_or, Ordering}
 use Rattle.std.specs.Ordering.{MatchOrdering, ordering_then, is_lt}
 use Rattle.std.specs.Cmp.{int_ranks}
 use Rattle.std.specs.List.{All, AllByRecursion}
@@ -17,7 +18,6 @@ use Rattle.worlds.specs.Fill.{same_is}
 use Rattle.worlds.specs.Range.{IsInside, HasMargin}
 use Rattle.worlds.specs.declared.cell.Cell.{Cell}
 use Rattle.multistate_rle.specs.declared.token.Token.{Token}
-use Rattle.multistate_rle.specs.declared.token.Token.TheVariants as token
 use Rattle.multistate_rle.specs.Listed.{IsListed}
 use Rattle.multistate_rle.specs.Token.{distance, zeros, way_by, way, joined, tokens, behind}
 use Rattle.multistate_rle.proofs.BodyReads.{IsWritable}
@@ -50,11 +50,7 @@ lay-live w = same_world (lay (map set_of (live w)) blank) w (λ x y.
 -- a place behind another is ahead of the next one
 next_ahead : (left : ℤ) (p q : Place) (o r : Ordering) → MatchOrdering o (p.0 <ℤ q.0) (p.0 ≡ q.0) (q.0 <ℤ p.0) → MatchOrdering r (p.1 <ℤ q.1) (p.1 ≡ q.1) (q.1 <ℤ p.1)
     → T (is_lt (ordering_then o r)) → left ≤ℤ q.1 → IsAhead left (behind p) q
-next_ahead left p q Less r m k h edge = (edge, inl m)
-next_ahead left p q Equal Less m k h edge = (edge, inr (m, omega (arith, ints, k)))
-next_ahead left p q Equal Equal m k h edge = absurd h
-next_ahead left p q Equal Greater m k h edge = absurd h
-next_ahead left p q Greater r m k h edge = absurd h
+next_ahead left p q o r m k h edge = grind (arith, ints)
 
 -- a live cell in the range of planes, right of the left edge and not above the top, with a state below `states`
 pub record IsCellOf (states : ℕ) (left top : ℤ) (e : Place × ℕ) : Type 0 where
@@ -90,27 +86,17 @@ abbrev pub IsBeside : Place → Type 0
 IsBeside p = IsNear p.0 × IsNear p.1
 
 zeros-writable : (most states n : ℕ) → 0 < states → n < most → AllByRecursion (IsWritable most states) (zeros n)
-zeros-writable most states zero some h = tt
-zeros-writable most states (suc n) some h = ((omega arith, h, some), tt)
+zeros-writable most states n some h = grind (arith)
 
 way-writable : (most states n : ℕ) (left : ℤ) (from to : Place) → 0 < states → n < most → distance from.1 to.1 < most → distance left to.1 < most → AllByRecursion (IsWritable most states) (way_by n left from to)
-way-writable most states zero left from to some h k m = zeros-writable most states (distance from.1 to.1) some k
-way-writable most states (suc n) left from to some h k m = ((omega arith, h, tt), zeros-writable most states (distance left to.1) some m)
+way-writable most states n left from to some h k m = grind (arith, ints, zeros-writable)
 
 writable-more : (few most states : ℕ) (t : Token) → few ≤ most → IsWritable few states t → IsWritable most states t
-writable-more few most states (token.Run n s) le h = (h.0, (let k : n < few = h.1 in omega arith), h.2)
-writable-more few most states (token.RowEnds n) le h = (h.0, (let k : n < few = h.1 in omega arith), tt)
-writable-more few most states token.End le h = tt
+writable-more few most states t le h = grind (arith)
 
 joined-writable : (few most states s : ℕ) (ts : List Token) → 0 < few → few < most → s < states → Joins s ts → AllByRecursion (IsWritable few states) ts
     → AllByRecursion (IsWritable most states) (joined 1 s ts)
-joined-writable few most states s ts some less below (inl first) h =
-    rw (first 1) ((omega arith, omega arith, below), all_so (IsWritable few states) (IsWritable most states) ts (λ t k. writable-more few most states t (omega arith) k) h)
-joined-writable few most states s ts some less below (inr other) h =
-    let k = subst (AllByRecursion (IsWritable few states)) other.2 h in
-    let count : other.0 < few = k.0.1 in
-    rw (ap (joined 1 s) other.2 ∙ joined-run 1 other.0 s other.1)
-    ((omega arith, omega arith, below), all_so (IsWritable few states) (IsWritable most states) other.1 (λ t k. writable-more few most states t (omega arith) k) k.1)
+joined-writable few most states s ts some less below k h = grind (arith, first, all_so, writable-more, joined-run)
 
 -- the tokens of cells can be written
 pub tokens-writable : (most states : ℕ) (left top : ℤ) (from : Place) (cs : List (Place × ℕ)) → 0 < states → length cs + 2 ^ 62 < most → IsNear left → IsBeside from
@@ -132,11 +118,7 @@ tokens-writable most states left top from (c ∷ cs) some enough edge near h =
 
 each_listed : (w : World) (cells : List Cell) → AllByRecursion (IsListedIn w) (map of_cell cells) → HasMargin 0 w → AllByRecursion IsListed cells
 each_listed w [] states inside = tt
-each_listed w (c ∷ cs) states inside =
-    let is : cell w c.x c.y ≡ c.state = states.0.0 in
-    let live : 0 < c.state = states.0.1 in
-    let at = inside c.x c.y (omega arith) in
-    ((live, omega (arith, ints)), each_listed w cs states.1 inside)
+each_listed w (c ∷ cs) states inside = grind (arith, ints, each_listed w cs states.1 inside)
 
 -- the cells that a plane lists aren't empty, and lie left of the right edge of planes
 pub AllListed-live : (w : World) (cells : List Cell) → map of_cell cells ≡ live w → HasMargin 0 w → All IsListed cells

@@ -7,7 +7,7 @@ use Rattle.std.proofs.lemmas.Bool.Decides.{nat_tests}
 use Rattle.std.proofs.lemmas.Int.{ints}
 use Rattle.std.proofs.lemmas.List.{length-map}
 use Rattle.std.proofs.Math.Seq.{drop-append_seam}
-use Rattle.worlds.specs.World.{World, Place, cell, blank}
+use Rattle.worlds.specs.World.{World, Place, blank}
 use Rattle.worlds.specs.Live.{live, live-states}
 use Rattle.worlds.specs.Lay.{lay}
 use Rattle.text_lines.specs.Blanks.{trim}
@@ -36,7 +36,7 @@ use Rattle.text_lines.proofs.Shared.LineEnds.{line-first}
 use Rattle.text_lines.proofs.Shared.PrintedLines.{IsLine, printed-one, strip-printed}
 use Rattle.multistate_rle.proofs.HeadReads.{IsCoordinate, comment_line, comment-reads, header_line, header-reads, comment-is_line, header-is_line}
 use Rattle.multistate_rle.proofs.Boxes.{IsNear, FrameFits, frame-fits}
-use Rattle.multistate_rle.proofs.LiveCells.{IsListedIn, IsCellOf, lay-live, live-ahead, tokens-writable}
+use Rattle.multistate_rle.proofs.LiveCells.{IsCellOf, lay-live, live-ahead, tokens-writable}
 use Rattle.multistate_rle.proofs.StripCells.{set_of, drawn, IsLaidInside, drawn-tokens, live_count-drawn, drawn-inside}
 
 -- the parts of a written pattern, as its two lines and the body behind them
@@ -108,15 +108,7 @@ module _ (w : World) (f : Frame) (n states : ℕ) (fits : FrameFits w f) (can : 
   most = length (live w) + 2 ^ 62 + 1
 
   cells : AllByRecursion (IsCellOf states f.left f.top) (live w)
-  cells =
-      all_so (IsListedIn w) (IsCellOf states f.left f.top) (live w)
-      (λ e h. let is : cell w e.0.1 e.0.0 ≡ e.1 = h.0 in
-      let some : 0 < e.1 = h.1 in
-      let live : 0 < cell w e.0.1 e.0.0 = omega arith in
-      let less = can.below e.0.1 e.0.0 in
-      let at = fits.holds e.0.1 e.0.0 live in
-      record { inside = can.inside e.0.1 e.0.0 live; edge = at.0; low = at.1; live = some; below = omega (arith, less) })
-      (live-states w)
+  cells = grind (arith, all_so, live-states)
 
   writable : AllByRecursion (IsWritable most states) written
   writable =

@@ -1,5 +1,5 @@
 -- Tokens of cells that come one by one.
-use Rattle.std.proofs.Common.{◌≡◌, ◌∙◌, sym, ap, refl, ℕ, zero, suc, ◌+◌, ◌<◌, ◌≤◌, ◌⊎◌, inl, inr, true, false, cond, List, [], ◌∷◌, ◌++◌, ℤ, pos, ◌+ℤ◌, ◌-ℤ◌, arith, map, length, drop, ◌==◌, unsigned_abs, drop_of_length-le}
+use Rattle.std.proofs.Common.{◌≡◌, ap, refl, ℕ, ◌+◌, ◌<◌, ◌≤◌, ◌⊎◌, inl, inr, true, false, cond, List, [], ◌∷◌, ◌++◌, ℤ, pos, ◌+ℤ◌, ◌-ℤ◌, arith, map, length, drop, ◌==◌, unsigned_abs, drop_of_length-le}
 use Rattle.std.proofs.lemmas.Bool.Decides.{nat_tests}
 use Rattle.std.proofs.lemmas.Int.{ints}
 use Rattle.worlds.specs.World.{Place}
@@ -13,13 +13,11 @@ use Rattle.multistate_rle.specs.Token.{distance, zeros, way_by, way, joined, tok
 use Rattle.multistate_rle.specs.Writing.{tokens_on}
 
 pub zeros-some : (n : ℕ) → (n ≡ 0 → ⊥) → zeros n ≡ Run n 0 ∷ []
-zeros-some zero h = absurd (h refl)
-zeros-some (suc n) h = refl
+zeros-some n h = grind (arith)
 
 -- the way to another row
 pub way-rows : (n : ℕ) (left : ℤ) (from to : Place) → (n ≡ 0 → ⊥) → way_by n left from to ≡ RowEnds n ∷ zeros (distance left to.1)
-way-rows zero left from to h = absurd (h refl)
-way-rows (suc n) left from to h = refl
+way-rows n left from to h = grind (arith, ints)
 
 distance-same : (a : ℤ) → distance a a ≡ 0
 distance-same a = let e : (a -ℤ a) ≡ pos 0 = omega (arith, ints) in ap unsigned_abs e
@@ -51,11 +49,7 @@ joined-other n m s t ts h = ap (λ b. cond b (Run (n + m) t ∷ ts) (Run n s ∷
 
 -- one more cell of a run
 joined-more : (n s : ℕ) (ts : List Token) → Joins s ts → joined n s (joined 1 s ts) ≡ joined (n + 1) s ts
-joined-more n s ts (inl first) = ap (joined n s) (first 1) ∙ joined-run n 1 s ts ∙ sym (first (n + 1))
-joined-more n s ts (inr other) =
-    let more : n + (1 + other.0) ≡ (n + 1) + other.0 = omega arith in
-    ap (joined n s) (ap (joined 1 s) other.2 ∙ joined-run 1 other.0 s other.1) ∙ joined-run n (1 + other.0) s other.1
-    ∙ ap (λ k. Run k s ∷ other.1) more ∙ sym (ap (joined (n + 1) s) other.2 ∙ joined-run (n + 1) other.0 s other.1)
+joined-more n s ts h = grind (arith, joined-run)
 
 -- the run goes on with the cell
 abbrev pub GoesOn : OpenRun → Cell → Type 0
@@ -64,35 +58,24 @@ GoesOn r c = (r.y ≡ c.y) × (r.next ≡ c.x) × (r.state ≡ c.state)
 -- a cell that goes on with a run
 pub goes_on : (left : ℤ) (r : OpenRun) (c : Cell) (cs : List (Place × ℕ)) → GoesOn r c
     → joined (r.count + 1) r.state (tokens left (r.y, r.next +ℤ pos 1) cs) ≡ tokens_on left r (of_cell c ∷ cs)
-goes_on left r c cs same =
-    let here : way left (r.y, r.next) (r.y, r.next) ≡ [] = ap (λ rows. way_by rows left (r.y, r.next) (r.y, r.next)) (distance-same r.y) ∙ ap zeros (distance-same r.next) in
-    let later : List Token = tokens left (r.y, r.next +ℤ pos 1) cs in
-    sym (joined-more r.count r.state later (joined-cases r.state later))
-    ∙ ap (λ ts. joined r.count r.state (ts ++ joined 1 r.state later)) (sym here)
-    ∙ (λ i. joined r.count r.state (tokens left (r.y, r.next) (((same.0 i, same.1 i), same.2 i) ∷ cs)))
+goes_on left r c cs same = grind (arith, ints, distance-same, joined-more, joined-cases)
 
 -- a run of another state stands before a cell
 apart : (n s s' : ℕ) (ts : List Token) → (s ≡ s' → ⊥) → Joins s' ts → joined n s (joined 1 s' ts) ≡ Run n s ∷ joined 1 s' ts
-apart n s s' ts h (inl first) = rw (first 1) (joined-other n 1 s s' ts h)
-apart n s s' ts h (inr other) = rw (ap (joined 1 s') other.2 ∙ joined-run 1 other.0 s' other.1) (joined-other n (1 + other.0) s s' other.1 h)
+apart n s s' ts h k = grind (arith, joined-other, joined-run)
 
 after_gap : (n s gap : ℕ) (ts : List Token) → 0 < s → (gap ≡ 0 → joined n s ts ≡ Run n s ∷ ts) → joined n s (zeros gap ++ ts) ≡ Run n s ∷ (zeros gap ++ ts)
-after_gap n s zero ts h k = k refl
-after_gap n s (suc gap) ts h k = joined-other n (suc gap) s 0 ts (λ e. omega (arith, h, e))
+after_gap n s gap ts h k = grind (arith, joined-other)
 
 after_way : (n s rows : ℕ) (left : ℤ) (from to : Place) (ts : List Token) → 0 < s
     → (rows ≡ 0 → distance from.1 to.1 ≡ 0 → joined n s ts ≡ Run n s ∷ ts)
     → joined n s (way_by rows left from to ++ ts) ≡ Run n s ∷ (way_by rows left from to ++ ts)
-after_way n s zero left from to ts h k = after_gap n s (distance from.1 to.1) ts h (k refl)
-after_way n s (suc rows) left from to ts h k = refl
+after_way n s rows left from to ts h k = grind (arith, ints, after_gap)
 
 -- a cell that doesn't go on with a run
 pub breaks : (left : ℤ) (r : OpenRun) (c : Cell) (cs : List (Place × ℕ)) → (GoesOn r c → ⊥)
     → Run r.count r.state ∷ (way left (r.y, r.next) (place_of c) ++ joined 1 c.state (tokens left (behind (place_of c)) cs)) ≡ tokens_on left r (of_cell c ∷ cs)
-breaks left r c cs h =
-    let later : List Token = tokens left (behind (place_of c)) cs in
-    sym (after_way r.count r.state (distance r.y c.y) left (r.y, r.next) (place_of c) (joined 1 c.state later) r.live
-    (λ rows gap. apart r.count r.state c.state later (λ e. h (distance-none r.y c.y rows, distance-none r.next c.x gap, e)) (joined-cases c.state later)))
+breaks left r c cs h = grind (arith, ints, after_way, apart, distance-none, joined-cases)
 
 -- the run of a first cell
 pub begins : (left : ℤ) (r : OpenRun) (c : Cell) (cs : List (Place × ℕ)) → (r.y ≡ c.y) × (r.next ≡ (c.x +ℤ pos 1)) → (r.count ≡ 1) × (r.state ≡ c.state) → tokens_on left r cs ≡ joined 1 c.state (tokens left (behind (place_of c)) cs)

@@ -1,5 +1,5 @@
 -- The strips that tokens draw, as cells: those that the tokens were made of.
-use Rattle.std.proofs.Common.{◌≡◌, ◌∙◌, sym, ap, ap₂, subst, refl, ℕ, zero, suc, ◌+◌, ◌-◌, ◌<◌, ◌^◌, ◌==◌, true, false, cond, ℤ, pos, ◌+ℤ◌, List, [], ◌∷◌, ◌++◌, length, map, arith, ⊎_elim, inl, inr, ◌⊎◌, neg_ℤ, ◌≤ℤ◌, ◌<ℤ◌, length-append}
+use Rattle.std.proofs.Common.{◌≡◌, ◌∙◌, ap, ap₂, subst, refl, ℕ, suc, ◌+◌, ◌-◌, ◌<◌, ◌^◌, ◌==◌, true, false, cond, ℤ, pos, ◌+ℤ◌, List, [], ◌∷◌, ◌++◌, length, map, arith, ⊎_elim, ◌⊎◌, neg_ℤ, ◌≤ℤ◌, ◌<ℤ◌, length-append}
 use Rattle.std.specs.List.{AllByRecursion, flat_map, list_all, range_with_len}
 use Rattle.std.proofs.lemmas.Bool.{and_from}
 use Rattle.std.proofs.lemmas.Int.{ints}
@@ -52,18 +52,10 @@ drawn-run origin row column n s ts live = rw (differs s 0 (λ e. omega arith)) r
 -- a cell that is joined with what follows
 drawn-joined : (origin : Origin) (row column s : ℕ) (ts : List Token) → 0 < s → Joins s ts
     → drawn origin row column (joined 1 s ts) ≡ live_cell origin row column s ∷ drawn origin row (column + 1) ts
-drawn-joined origin row column s ts live (inl first) =
-    ap (drawn origin row column) (first 1) ∙ drawn-run origin row column 1 s ts live
-    ∙ ap (λ cs. cs ++ drawn origin row (column + 1) ts) (cells_of-first origin row column 1 0 s (omega arith))
-drawn-joined origin row column s ts live (inr other) =
-    let far : column + (1 + other.0) ≡ (column + 1) + other.0 = omega arith in
-    ap (drawn origin row column) (ap (joined 1 s) other.2 ∙ joined-run 1 other.0 s other.1) ∙ drawn-run origin row column (1 + other.0) s other.1 live
-    ∙ ap₂ (λ cs c. cs ++ drawn origin row c other.1) (cells_of-first origin row column (1 + other.0) other.0 s (omega arith)) far
-    ∙ ap (λ cs. live_cell origin row column s ∷ cs) (sym (ap (drawn origin row (column + 1)) other.2 ∙ drawn-run origin row (column + 1) other.0 s other.1 live))
+drawn-joined origin row column s ts live h = grind (arith, drawn-run, cells_of-first, joined-run)
 
 drawn-zeros : (origin : Origin) (row column gap : ℕ) (ts : List Token) → drawn origin row column (zeros gap ++ ts) ≡ drawn origin row (column + gap) ts
-drawn-zeros origin row column zero ts = let same : column ≡ column + 0 = omega arith in ap (λ c. drawn origin row c ts) same
-drawn-zeros origin row column (suc gap) ts = refl
+drawn-zeros origin row column gap ts = grind (arith)
 
 -- `to` comes behind `from` in the rows from the left edge on, or is it
 abbrev pub IsAhead : ℤ → Place → Place → Type 0
@@ -113,8 +105,7 @@ drawn-tokens origin row column from (c ∷ cs) y x h =
 -- so many cells are counted as are drawn
 pub live_count-drawn : (origin : Origin) (strips : List Strip) → live_count strips ≡ length (flat_map (cells_of origin) strips)
 live_count-drawn origin [] = refl
-live_count-drawn origin (strip ∷ strips) =
-    omega (arith, sum_by-cons (λ (s : Strip). s.count) strip strips, length-append (cells_of origin strip) (flat_map (cells_of origin) strips), length-map-range_with_len (cell_at origin strip) 0 strip.count, live_count-drawn origin strips)
+live_count-drawn origin (strip ∷ strips) = omega (arith, sum_by-cons (λ (s : Strip). s.count) strip strips, length-append (cells_of origin strip) (flat_map (cells_of origin) strips), length-map-range_with_len (cell_at origin strip) 0 strip.count, live_count-drawn origin strips)
 
 all_parts : {X : Type 0} (P : X → Type 0) (xs ys : List X) → AllByRecursion P (xs ++ ys) → AllByRecursion P xs × AllByRecursion P ys
 all_parts P [] ys h = (tt, h)

@@ -1,13 +1,13 @@
 -- Strips of cells: where they lie, also by numbers that stand at 2^64 - 1 where they are greater, and their cells one after another.
-use Rattle.std.proofs.Common.{◌≡◌, ℕ, ◌+◌, ◌-◌, ◌^◌, ◌<◌, ◌≤◌, ◌&&◌, true, false, min, ℤ, pos, ◌+ℤ◌, List, [], ◌∷◌, ◌++◌, map, ⊎_elim, ap, sym, ◌∙◌, arith, append_assoc, int_le, int_lt, neg_ℤ, ◌≤ℤ◌, ◌<ℤ◌, w64, SFits}
-use Rattle.std.specs.List.{range_with_len}
+use Rattle.std.proofs.lemmas.Bool.Decides.{nat_tests}
+use Rattle.std.proofs.Common.{◌≡◌, ℕ, ◌+◌, ◌-◌, ◌^◌, ◌≤◌, true, false, min, ℤ, pos, ◌+ℤ◌, List, [], ◌∷◌, ◌++◌, ap, sym, ◌∙◌, arith, append_assoc, int_le, int_lt, neg_ℤ, ◌≤ℤ◌, ◌<ℤ◌, w64, SFits}
 use Rattle.std.proofs.lemmas.Bool.{and_parts, and_right, both_ways, cases_lt}
 use Rattle.std.proofs.lemmas.Int.{ints}
 use Rattle.std.proofs.lemmas.List.FromFn.{map-range_with_len_more}
 use Rattle.worlds.specs.declared.cell.CellSet.{CellSet}
 use Rattle.worlds.specs.Range.{IsInside}
 use Rattle.multistate_rle.specs.declared.comment.Origin.{Origin}
-use Rattle.multistate_rle.specs.Pattern.{Strip, is_in_range, lies_inside, cell_at, cells_of}
+use Rattle.multistate_rle.specs.Pattern.{Strip, is_in_range, lies_inside, cells_of}
 use Rattle.multistate_rle.specs.Drawing.{capped, side_by_side}
 
 -- the place of an origin has 64 bits
@@ -24,26 +24,16 @@ far z n fits past = and_right _ _ (let out : int_lt (z +ℤ pos n) (pos (2 ^ 61)
 
 -- numbers that are alike as far as it matters
 same_range : (z : ℤ) (m n : ℕ) → SFits w64 z → near m ≡ near n → is_in_range (z +ℤ pos m) ≡ is_in_range (z +ℤ pos n)
-same_range z m n fits alike = ⊎_elim
-    (λ (below : m < 2 ^ 64 - 2). let same : m ≡ n = omega arith in ap (λ k. is_in_range (z +ℤ pos k)) same)
-    (λ (past : 2 ^ 64 - 2 ≤ m). far z m fits past ∙ sym (far z n fits (omega arith)))
-    (cases_lt m (2 ^ 64 - 2))
+same_range z m n fits alike = grind (arith, ints, far, cases_lt)
 
 -- strips that are alike as far as it matters
 pub lies_inside-alike : (origin : Origin) (p q : Strip) → IsPlaced origin
     → near p.column ≡ near q.column → near (p.column + p.count - 1) ≡ near (q.column + q.count - 1) → near p.row ≡ near q.row → lies_inside origin p ≡ lies_inside origin q
-lies_inside-alike origin p q placed first last row =
-    let left = same_range origin.x p.column q.column placed.x first in
-    let right = same_range origin.x (p.column + p.count - 1) (q.column + q.count - 1) placed.x last in
-    let height = same_range origin.y p.row q.row placed.y row in
-    λ i. left i && (right i && height i)
+lies_inside-alike origin p q placed first last row = grind (arith, nat_tests, same_range)
 
 -- a number at which a coordinate is in range isn't beyond
 pub capped-in_range : (z : ℤ) (n : ℕ) → SFits w64 z → is_in_range (z +ℤ pos n) ≡ true → capped n ≡ n
-capped-in_range z n fits inside = ⊎_elim
-    (λ (below : n < 2 ^ 64 - 2). let same : capped n ≡ n = omega arith in same)
-    (λ (past : 2 ^ 64 - 2 ≤ n). absurd (both_ways _ (far z n fits past) inside))
-    (cases_lt n (2 ^ 64 - 2))
+capped-in_range z n fits inside = grind (arith, ints, both_ways, far, cases_lt)
 
 -- cells of the same place and state
 pub same_cell : (a b : CellSet) → a.x ≡ b.x → a.y ≡ b.y → a.state ≡ b.state → a ≡ b
@@ -59,17 +49,7 @@ pub record IsWithin (origin : Origin) (strip : Strip) : Type 0 where
 
 -- a strip that lies in the plane
 pub lies_within : (origin : Origin) (strip : Strip) → lies_inside origin strip ≡ true → IsWithin origin strip
-lies_within origin strip inside =
-    let right : ℤ = origin.x +ℤ pos (strip.column + strip.count - 1) in
-    let parts = and_parts (is_in_range (origin.x +ℤ pos strip.column)) (is_in_range right && is_in_range (origin.y +ℤ pos strip.row)) inside in
-    let others = and_parts (is_in_range right) (is_in_range (origin.y +ℤ pos strip.row)) parts.1 in
-    let x = bounds (origin.x +ℤ pos strip.column) parts.0 in
-    let z = bounds right others.0 in
-    let y = bounds (origin.y +ℤ pos strip.row) others.1 in
-    record {
-      first = record { left = omega (arith, ints, x.0); right = omega (arith, ints, x.1); top = omega (arith, ints, y.0); bottom = omega (arith, ints, y.1) };
-      last = omega (arith, ints, x.1, z.1);
-    }
+lies_within origin strip inside = grind (arith, ints, nat_tests, and_parts, bounds)
 
 -- one cell more
 pub side_by_side-more : (first cell : CellSet) (k : ℕ) (new cells old : List CellSet) → new ≡ cells ++ cell ∷ [] → cells ≡ old ++ side_by_side first k
@@ -84,7 +64,4 @@ side_by_side-more first cell k new cells old pushed before x y state =
 
 -- a strip's cells, from its first
 pub side_by_side-strip : (origin : Origin) (strip : Strip) (first : CellSet) → first.x ≡ origin.x +ℤ pos strip.column → first.y ≡ origin.y +ℤ pos strip.row → first.state ≡ strip.state → side_by_side first strip.count ≡ cells_of origin strip
-side_by_side-strip origin strip first x y state =
-    let each : (k : ℕ) → record { x = first.x +ℤ pos k; y = first.y; state = first.state } ≡ cell_at origin strip k =
-    λ k. same_cell (record { x = first.x +ℤ pos k; y = first.y; state = first.state }) (cell_at origin strip k) (omega (arith, ints)) y state in
-    λ i. map (λ k. each k i) (range_with_len 0 strip.count)
+side_by_side-strip origin strip first x y state = grind (arith, ints, same_cell)
