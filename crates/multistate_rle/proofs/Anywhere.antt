@@ -65,8 +65,8 @@ pub record IsFault (e : RleFault) (ss : List Symbol) : Type 0 where
 fault-told : (here : Result World RleFault) (e : RleFault) → (e ≡ NoMemory) ⊎ (here ≡ Err e) → IsOk here ⊎ (here ≡ Err CellOutOfRange) → unplaced e ≡ NoMemory
 fault-told here e h told = grind (arith)
 
-pub fault-anywhere : (origin : Origin) (ss : List Symbol) (e : RleFault) → (e ≡ NoMemory) ⊎ (drawn_by origin ss ≡ Err e) → (e ≡ NoMemory → IsOk (drawn_by origin ss)) → IsFault e ss
-fault-anywhere origin ss e given sound = by (drawn-told ss) given
+pub fault_told_anywhere : (origin : Origin) (ss : List Symbol) (e : RleFault) → (e ≡ NoMemory) ⊎ (drawn_by origin ss ≡ Err e) → (e ≡ NoMemory → IsOk (drawn_by origin ss)) → IsFault e ss
+fault_told_anywhere origin ss e given sound = by (drawn-told ss) given
   where
     by : IsTold (λ origin. drawn_by origin ss) → (e ≡ NoMemory) ⊎ (drawn_by origin ss ≡ Err e) → IsFault e ss
     by (inr none) h = record { anywhere = λ there k. absurd (k (fault-told (drawn_by origin ss) e h (none origin))); none = λ k. none }

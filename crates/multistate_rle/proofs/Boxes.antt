@@ -102,12 +102,12 @@ found_box w None b h k = absurd (dead-blank w b.left k.touched_left.0 h k.touche
 found_box w (Some a) b h k = ap (λ d. Some d) (one_box w a b h k)
 
 -- the box of the live cells is the bounding box
-pub box_of-live : (w : World) (b : Bounds) → IsBoundingBox b w → box_of (live w) ≡ Some b
-box_of-live w b k = found_box w (box_of (live w)) b (is_box w (live w) refl) k
+pub box_of_live : (w : World) (b : Bounds) → IsBoundingBox b w → box_of (live w) ≡ Some b
+box_of_live w b k = found_box w (box_of (live w)) b (is_box w (live w) refl) k
 
 -- the box of the live cells of the blank world
-pub box_of-blank : (w : World) → w ≡ blank → box_of (live w) ≡ None
-box_of-blank w is = ap (λ v. box_of (live v)) is ∙ ap box_of (live-entries blank ∙ ap (map as_live) entries-blank)
+pub box_of_blank : (w : World) → w ≡ blank → box_of (live w) ≡ None
+box_of_blank w is = ap (λ v. box_of (live v)) is ∙ ap box_of (live-entries blank ∙ ap (map as_live) entries-blank)
 
 pub same_frame : {a b c d : ℤ} {k l m n : ℕ} → a ≡ b → c ≡ d → k ≡ l → m ≡ n → ◌≡◌ {A = Frame} (record { left = a; top = c; width = k; height = m }) (record { left = b; top = d; width = l; height = n })
 same_frame left top width height = λ i. record { left = left i; top = top i; width = width i; height = height i }

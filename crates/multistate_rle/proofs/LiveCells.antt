@@ -9,6 +9,7 @@ use Rattle.std.specs.FinMap as map
 use Rattle.std.specs.FinMap.Entries.{is_sorted}
 use Rattle.std.proofs.lemmas.Int.{ints, by_lt_z}
 use Rattle.std.proofs.lemmas.List.Elements.{All-from_recursion}
+use Rattle.std.proofs.lemmas.Bool.Decides.{nat_tests}
 use Rattle.basics.proofs.Shared.Lists.{all_append, all_so}
 use Rattle.basics.proofs.Shared.Tests.{first, second}
 use Rattle.worlds.specs.World.{World, Place, place_cmp, same_place, cell, blank, cell-blank, same_world}
@@ -22,7 +23,6 @@ use Rattle.multistate_rle.specs.Listed.{IsListed}
 use Rattle.multistate_rle.specs.Token.{distance, zeros, way_by, way, joined, tokens, behind}
 use Rattle.multistate_rle.proofs.BodyReads.{IsWritable}
 use Rattle.multistate_rle.proofs.Boxes.{IsNear, distance-near}
-use Rattle.multistate_rle.proofs.Runs.{Joins, joined-cases, joined-run}
 use Rattle.multistate_rle.proofs.StripCells.{set_of, IsAhead, AreAhead}
 
 -- a listed cell has its state in the world, and is live
@@ -94,9 +94,9 @@ way-writable most states n left from to some h k m = grind (arith, ints, zeros-w
 writable-more : (few most states : ℕ) (t : Token) → few ≤ most → IsWritable few states t → IsWritable most states t
 writable-more few most states t le h = grind (arith)
 
-joined-writable : (few most states s : ℕ) (ts : List Token) → 0 < few → few < most → s < states → Joins s ts → AllByRecursion (IsWritable few states) ts
+joined-writable : (few most states s : ℕ) (ts : List Token) → 0 < few → few < most → s < states → AllByRecursion (IsWritable few states) ts
     → AllByRecursion (IsWritable most states) (joined 1 s ts)
-joined-writable few most states s ts some less below k h = grind (arith, first, all_so, writable-more, joined-run)
+joined-writable few most states s ts some less below h = grind (arith, nat_tests, all_so, writable-more)
 
 -- the tokens of cells can be written
 pub tokens-writable : (most states : ℕ) (left top : ℤ) (from : Place) (cs : List (Place × ℕ)) → 0 < states → length cs + 2 ^ 62 < most → IsNear left → IsBeside from
@@ -113,7 +113,7 @@ tokens-writable most states left top from (c ∷ cs) some enough edge near h =
     let later : List Token = tokens left (behind c.0) cs in
     all_append (IsWritable most states) (way left from c.0) (joined 1 c.1 later)
     (way-writable most states (distance from.0 c.0.0) left from c.0 some (omega arith) (omega arith) (omega arith))
-    (joined-writable (most - 1) most states c.1 later (omega arith) (omega arith) h.0.below (joined-cases c.1 later)
+    (joined-writable (most - 1) most states c.1 later (omega arith) (omega arith) h.0.below
     (tokens-writable (most - 1) states left top (behind c.0) cs some (omega arith) edge (y, beyond) h.1))
 
 each_listed : (w : World) (cells : List Cell) → AllByRecursion (IsListedIn w) (map of_cell cells) → HasMargin 0 w → AllByRecursion IsListed cells
@@ -121,5 +121,5 @@ each_listed w [] states inside = tt
 each_listed w (c ∷ cs) states inside = grind (arith, ints, each_listed w cs states.1 inside)
 
 -- the cells that a plane lists aren't empty, and lie left of the right edge of planes
-pub AllListed-live : (w : World) (cells : List Cell) → map of_cell cells ≡ live w → HasMargin 0 w → All IsListed cells
-AllListed-live w cells is inside = All-from_recursion IsListed cells (each_listed w cells (subst (AllByRecursion (IsListedIn w)) (sym is) (live-states w)) inside)
+pub all_listed : (w : World) (cells : List Cell) → map of_cell cells ≡ live w → HasMargin 0 w → All IsListed cells
+all_listed w cells is inside = All-from_recursion IsListed cells (each_listed w cells (subst (AllByRecursion (IsListedIn w)) (sym is) (live-states w)) inside)

@@ -150,6 +150,6 @@ framed-means w f name n states fits named small two fit can =
     (rw (body-left first second body) (rw (body-reads w f n states fits can two (two_lines first second) fit) refl))
 
 -- what is written means the same
-pub written-means : WrittenMeansTheSame
-written-means = λ w name generation states named small two fit can.
+pub written_means : WrittenMeansTheSame
+written_means = λ w name generation states named small two fit can.
     framed-means w (frame_of (box_of (live w))) name generation states (frame-fits w can.inside) named small two fit can

@@ -1,23 +1,19 @@
 -- Tokens of cells that come one by one.
-use Rattle.std.proofs.Common.{◌≡◌, ap, refl, ℕ, ◌+◌, ◌<◌, ◌≤◌, ◌⊎◌, inl, inr, true, false, cond, List, [], ◌∷◌, ◌++◌, ℤ, pos, ◌+ℤ◌, ◌-ℤ◌, arith, map, length, drop, ◌==◌, unsigned_abs, drop_of_length-le}
+use Rattle.std.proofs.Common.{◌≡◌, ap, ℕ, ◌+◌, ◌≤◌, List, [], ◌∷◌, ◌++◌, ℤ, pos, ◌+ℤ◌, ◌-ℤ◌, arith, map, length, drop, unsigned_abs, drop_of_length-le}
 use Rattle.std.proofs.lemmas.Bool.Decides.{nat_tests}
 use Rattle.std.proofs.lemmas.Int.{ints}
 use Rattle.worlds.specs.World.{Place}
 use Rattle.worlds.specs.Live.{of_cell, place_of}
 use Rattle.worlds.specs.declared.cell.Cell.{Cell}
-use Rattle.text_lines.proofs.Shared.ByteRanges.{differs}
 use Rattle.multistate_rle.specs.declared.token.Token.{Token}
-use Rattle.multistate_rle.specs.declared.token.Token.TheVariants.{Run, RowEnds, End}
+use Rattle.multistate_rle.specs.declared.token.Token.TheVariants.{Run, RowEnds}
 use Rattle.multistate_rle.specs.declared.open_run.OpenRun.{OpenRun}
 use Rattle.multistate_rle.specs.Token.{distance, zeros, way_by, way, joined, tokens, behind}
 use Rattle.multistate_rle.specs.Writing.{tokens_on}
 
-pub zeros-some : (n : ℕ) → (n ≡ 0 → ⊥) → zeros n ≡ Run n 0 ∷ []
-zeros-some n h = grind (arith)
-
 -- the way to another row
-pub way-rows : (n : ℕ) (left : ℤ) (from to : Place) → (n ≡ 0 → ⊥) → way_by n left from to ≡ RowEnds n ∷ zeros (distance left to.1)
-way-rows n left from to h = grind (arith, ints)
+pub way_rows : (n : ℕ) (left : ℤ) (from to : Place) → (n ≡ 0 → ⊥) → way_by n left from to ≡ RowEnds n ∷ zeros (distance left to.1)
+way_rows n left from to h = grind (arith, ints)
 
 distance-same : (a : ℤ) → distance a a ≡ 0
 distance-same a = let e : (a -ℤ a) ≡ pos 0 = omega (arith, ints) in ap unsigned_abs e
@@ -25,31 +21,9 @@ distance-same a = let e : (a -ℤ a) ≡ pos 0 = omega (arith, ints) in ap unsig
 distance-none : (a b : ℤ) → distance a b ≡ 0 → a ≡ b
 distance-none a b h = let e : (b -ℤ a) ≡ pos 0 = grind (arith, ints) in omega (arith, ints, e)
 
--- cells of a state stand before the tokens, or these begin with a run of that state
-abbrev pub Joins : ℕ → List Token → Type 0
-Joins s ts = ((n : ℕ) → joined n s ts ≡ Run n s ∷ ts) ⊎ ((m : ℕ) × (rest : List Token) × (ts ≡ Run m s ∷ rest))
-
-pub joined-cases : (s : ℕ) (ts : List Token) → Joins s ts
-joined-cases s [] = inl (λ n. refl)
-joined-cases s (RowEnds m ∷ ts) = inl (λ n. refl)
-joined-cases s (End ∷ ts) = inl (λ n. refl)
-joined-cases s (Run m t ∷ ts) =
-    elim (s == t) as (λ v. (s == t) ≡ v → ((n : ℕ) → cond v (Run (n + m) t ∷ ts) (Run n s ∷ Run m t ∷ ts) ≡ Run n s ∷ Run m t ∷ ts)
-    ⊎ ((k : ℕ) × (rest : List Token) × (Run m t ∷ ts ≡ Run k s ∷ rest))) [
-      | true ↦ λ is. inr (m, ts, ap (λ u. Run m u ∷ ts) (let same : t ≡ s = grind (arith, nat_tests) in same))
-      | false ↦ λ is. inl (λ n. refl)
-    ] refl
-
--- there they are one with that run
-pub joined-run : (n m s : ℕ) (ts : List Token) → joined n s (Run m s ∷ ts) ≡ Run (n + m) s ∷ ts
-joined-run n m s ts = let same : (s == s) ≡ true = grind (arith, nat_tests) in ap (λ b. cond b (Run (n + m) s ∷ ts) (Run n s ∷ Run m s ∷ ts)) same
-
-joined-other : (n m s t : ℕ) (ts : List Token) → (s ≡ t → ⊥) → joined n s (Run m t ∷ ts) ≡ Run n s ∷ Run m t ∷ ts
-joined-other n m s t ts h = ap (λ b. cond b (Run (n + m) t ∷ ts) (Run n s ∷ Run m t ∷ ts)) (differs s t h)
-
 -- one more cell of a run
-joined-more : (n s : ℕ) (ts : List Token) → Joins s ts → joined n s (joined 1 s ts) ≡ joined (n + 1) s ts
-joined-more n s ts h = grind (arith, joined-run)
+joined-more : (n s : ℕ) (ts : List Token) → joined n s (joined 1 s ts) ≡ joined (n + 1) s ts
+joined-more n s ts = grind (arith, nat_tests)
 
 -- the run goes on with the cell
 abbrev pub GoesOn : OpenRun → Cell → Type 0
@@ -58,24 +32,16 @@ GoesOn r c = (r.y ≡ c.y) × (r.next ≡ c.x) × (r.state ≡ c.state)
 -- a cell that goes on with a run
 pub goes_on : (left : ℤ) (r : OpenRun) (c : Cell) (cs : List (Place × ℕ)) → GoesOn r c
     → joined (r.count + 1) r.state (tokens left (r.y, r.next +ℤ pos 1) cs) ≡ tokens_on left r (of_cell c ∷ cs)
-goes_on left r c cs same = grind (arith, ints, distance-same, joined-more, joined-cases)
+goes_on left r c cs same = grind (arith, ints, distance-same, joined-more)
 
 -- a run of another state stands before a cell
-apart : (n s s' : ℕ) (ts : List Token) → (s ≡ s' → ⊥) → Joins s' ts → joined n s (joined 1 s' ts) ≡ Run n s ∷ joined 1 s' ts
-apart n s s' ts h k = grind (arith, joined-other, joined-run)
-
-after_gap : (n s gap : ℕ) (ts : List Token) → 0 < s → (gap ≡ 0 → joined n s ts ≡ Run n s ∷ ts) → joined n s (zeros gap ++ ts) ≡ Run n s ∷ (zeros gap ++ ts)
-after_gap n s gap ts h k = grind (arith, joined-other)
-
-after_way : (n s rows : ℕ) (left : ℤ) (from to : Place) (ts : List Token) → 0 < s
-    → (rows ≡ 0 → distance from.1 to.1 ≡ 0 → joined n s ts ≡ Run n s ∷ ts)
-    → joined n s (way_by rows left from to ++ ts) ≡ Run n s ∷ (way_by rows left from to ++ ts)
-after_way n s rows left from to ts h k = grind (arith, ints, after_gap)
+apart : (n s s' : ℕ) (ts : List Token) → (s ≡ s' → ⊥) → joined n s (joined 1 s' ts) ≡ Run n s ∷ joined 1 s' ts
+apart n s s' ts h = grind (arith, nat_tests)
 
 -- a cell that doesn't go on with a run
 pub breaks : (left : ℤ) (r : OpenRun) (c : Cell) (cs : List (Place × ℕ)) → (GoesOn r c → ⊥)
     → Run r.count r.state ∷ (way left (r.y, r.next) (place_of c) ++ joined 1 c.state (tokens left (behind (place_of c)) cs)) ≡ tokens_on left r (of_cell c ∷ cs)
-breaks left r c cs h = grind (arith, ints, after_way, apart, distance-none, joined-cases)
+breaks left r c cs h = grind (arith, ints, nat_tests, apart, distance-none)
 
 -- the run of a first cell
 pub begins : (left : ℤ) (r : OpenRun) (c : Cell) (cs : List (Place × ℕ)) → (r.y ≡ c.y) × (r.next ≡ (c.x +ℤ pos 1)) → (r.count ≡ 1) × (r.state ≡ c.state) → tokens_on left r cs ≡ joined 1 c.state (tokens left (behind (place_of c)) cs)

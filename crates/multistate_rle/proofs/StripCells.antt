@@ -6,6 +6,7 @@ use Rattle.std.proofs.lemmas.Int.{ints}
 use Rattle.std.proofs.lemmas.List.Elements.{All-from_recursion}
 use Rattle.std.proofs.lemmas.List.FromFn.{fill_by_all, get_or-map-range_with_len, length-map-range_with_len}
 use Rattle.std.proofs.lemmas.List.Sums.{sum_by-cons}
+use Rattle.std.proofs.lemmas.Bool.Decides.{nat_tests}
 use Rattle.worlds.specs.World.{Place}
 use Rattle.worlds.specs.declared.cell.CellSet.{CellSet}
 use Rattle.worlds.specs.Range.{IsInside}
@@ -16,7 +17,7 @@ use Rattle.multistate_rle.specs.Pattern.{Strip, strips_from, live_count, is_in_r
 use Rattle.multistate_rle.specs.Token.{distance, zeros, way_by, way, joined, tokens, behind}
 use Rattle.multistate_rle.proofs.BodyReads.{IsWritable, runs_of}
 use Rattle.text_lines.proofs.Shared.ByteRanges.{differs}
-use Rattle.multistate_rle.proofs.Runs.{Joins, joined-cases, joined-run, way-rows}
+use Rattle.multistate_rle.proofs.Runs.{way_rows}
 use Rattle.multistate_rle.proofs.Strips.{same_cell}
 
 -- a listed cell, as it is laid
@@ -50,9 +51,9 @@ drawn-run : (origin : Origin) (row column n s : ℕ) (ts : List Token) → 0 < s
 drawn-run origin row column n s ts live = rw (differs s 0 (λ e. omega arith)) refl
 
 -- a cell that is joined with what follows
-drawn-joined : (origin : Origin) (row column s : ℕ) (ts : List Token) → 0 < s → Joins s ts
+drawn-joined : (origin : Origin) (row column s : ℕ) (ts : List Token) → 0 < s
     → drawn origin row column (joined 1 s ts) ≡ live_cell origin row column s ∷ drawn origin row (column + 1) ts
-drawn-joined origin row column s ts live h = grind (arith, drawn-run, cells_of-first, joined-run)
+drawn-joined origin row column s ts live = grind (arith, nat_tests, drawn-run, cells_of-first)
 
 drawn-zeros : (origin : Origin) (row column gap : ℕ) (ts : List Token) → drawn origin row column (zeros gap ++ ts) ≡ drawn origin row (column + gap) ts
 drawn-zeros origin row column gap ts = grind (arith)
@@ -79,7 +80,7 @@ drawn-way origin row column from to ts cells y x ahead arrive =
     (λ (below : from.0 <ℤ to.0).
     let down = distance-to from.0 to.0 (omega (arith, ints, below)) in
     let on = distance-to origin.x to.1 ahead.0 in
-    ap (λ way. drawn origin row column (way ++ ts)) (way-rows rows origin.x from to (λ none. omega (arith, ints, down, below, none)))
+    ap (λ way. drawn origin row column (way ++ ts)) (way_rows rows origin.x from to (λ none. omega (arith, ints, down, below, none)))
     ∙ drawn-zeros origin (row + rows) 0 (distance origin.x to.1) ts
     ∙ arrive (row + rows) (0 + distance origin.x to.1) (omega (arith, ints, down, y)) (omega (arith, ints, on)))
     (λ (here : (from.0 ≡ to.0) × (from.1 ≤ℤ to.1)).
@@ -98,7 +99,7 @@ drawn-tokens origin row column from [] y x h = refl
 drawn-tokens origin row column from (c ∷ cs) y x h =
     let later : List Token = tokens origin.x (behind c.0) cs in
     drawn-way origin row column from c.0 (joined 1 c.1 later) (set_of c ∷ map set_of cs) y x h.0 (λ r k at_y at_x.
-    drawn-joined origin r k c.1 later h.1.0 (joined-cases c.1 later)
+    drawn-joined origin r k c.1 later h.1.0
     ∙ ap₂ (λ d ds. d ∷ ds) (same_cell (live_cell origin r k c.1) (set_of c) at_x at_y refl)
     (drawn-tokens origin r (k + 1) (behind c.0) cs at_y (omega (arith, ints, at_x)) h.1.1))
 

@@ -52,9 +52,9 @@ pub lies_within : (origin : Origin) (strip : Strip) → lies_inside origin strip
 lies_within origin strip inside = grind (arith, ints, nat_tests, and_parts, bounds)
 
 -- one cell more
-pub side_by_side-more : (first cell : CellSet) (k : ℕ) (new cells old : List CellSet) → new ≡ cells ++ cell ∷ [] → cells ≡ old ++ side_by_side first k
+pub side_by_side_more : (first cell : CellSet) (k : ℕ) (new cells old : List CellSet) → new ≡ cells ++ cell ∷ [] → cells ≡ old ++ side_by_side first k
     → cell.x ≡ first.x +ℤ pos k → cell.y ≡ first.y → cell.state ≡ first.state → new ≡ old ++ side_by_side first (k + 1)
-side_by_side-more first cell k new cells old pushed before x y state =
+side_by_side_more first cell k new cells old pushed before x y state =
     let last : CellSet = record { x = first.x +ℤ pos k; y = first.y; state = first.state } in
     pushed
     ∙ ap (λ cs. cs ++ cell ∷ []) before
@@ -63,5 +63,5 @@ side_by_side-more first cell k new cells old pushed before x y state =
     ∙ ap (λ cs. old ++ cs) (sym (map-range_with_len_more (λ (k : ℕ). record { x = first.x +ℤ pos k; y = first.y; state = first.state }) 0 k k (omega arith)))
 
 -- a strip's cells, from its first
-pub side_by_side-strip : (origin : Origin) (strip : Strip) (first : CellSet) → first.x ≡ origin.x +ℤ pos strip.column → first.y ≡ origin.y +ℤ pos strip.row → first.state ≡ strip.state → side_by_side first strip.count ≡ cells_of origin strip
-side_by_side-strip origin strip first x y state = grind (arith, ints, same_cell)
+pub side_by_side_strip : (origin : Origin) (strip : Strip) (first : CellSet) → first.x ≡ origin.x +ℤ pos strip.column → first.y ≡ origin.y +ℤ pos strip.row → first.state ≡ strip.state → side_by_side first strip.count ≡ cells_of origin strip
+side_by_side_strip origin strip first x y state = grind (arith, ints, same_cell)

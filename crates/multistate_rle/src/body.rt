@@ -80,6 +80,7 @@ impl Body {
     }
 
     // Goes on with the cell: the open run, which is written where it doesn't hold the cell.
+    #[tactic(auto, using(crate::proofs::Runs::goes_on))]
     fn advance(&mut self, left: i64, run: OpenRun, cell: &Cell) -> Result<OpenRun, AllocError>
         requires { (run.count + 1 < 2 ^ 64) × IsListed cell.now }
         ensures written { IfOk result (λ next. (cells : List (Place × ℕ)) →

@@ -43,6 +43,7 @@ pub fn read_rle(alloc: Global, text: &[u8]) -> Result<Loaded, RleFault>
 
 // The fault that a body has wherever its pattern lies. NoMemory where it has none, since
 // there was no memory to learn where it lies.
+#[tactic(auto, using(crate::proofs::Anywhere::fault_told_anywhere))]
 fn fault_anywhere(alloc: Global, symbols: Symbols) -> RleFault
     ensures fault { IsFaultAnywhere result symbols.entry }
     ensures no_memory { result ≡ RleFault.NoMemory → HasNoFaultAnywhere symbols.entry }

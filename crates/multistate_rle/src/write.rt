@@ -17,6 +17,7 @@ pub const MOST_WRITTEN: u32 = 1_000_000;
 /// At most 1,000,000 cells are live, and their states are below `states`.
 ///
 /// The lines of the body have at most 70 bytes.
+#[tactic(auto, using(crate::proofs::LiveCells::all_listed))]
 pub fn write_rle(
     alloc: Global,
     plane: &Plane,

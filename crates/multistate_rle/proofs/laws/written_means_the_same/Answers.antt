@@ -1,5 +1,5 @@
-use Rattle.multistate_rle.proofs.PatternReads.{written-means}
+use Rattle.multistate_rle.proofs.PatternReads.{written_means}
 use Rattle.multistate_rle.proofs.laws.written_means_the_same.Goals as goal
 
 pub returns : goal.returns
-returns c = written-means
+returns c = written_means

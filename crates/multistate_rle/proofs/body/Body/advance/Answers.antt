@@ -1,16 +1,10 @@
 use Rattle.std.proofs.Common.{◌∙◌, ◌≡◌, ap, List, ◌++◌, ◌∷◌, rules}
 use Rattle.worlds.specs.Live.{place_of}
-use Rattle.multistate_rle.specs.declared.open_run.OpenRun.{OpenRun}
 use Rattle.multistate_rle.specs.declared.token.Token.{Token}
 use Rattle.multistate_rle.specs.Token.{way, joined, tokens, behind}
-use Rattle.multistate_rle.specs.Writing.{finished, tokens_on}
-use Rattle.multistate_rle.proofs.Runs.{GoesOn, goes_on, breaks, begins}
+use Rattle.multistate_rle.specs.Writing.{finished}
+use Rattle.multistate_rle.proofs.Runs.{GoesOn, breaks, begins}
 use Rattle.multistate_rle.proofs.body.Body.advance.Goals as goal
-
-pub returns-then-goes_on_with-clause-written : goal.returns-then-goes_on_with-clause-written
-returns-then-goes_on_with-clause-written c cells =
-    ap (λ (r : OpenRun). finished c.args.self.now (tokens_on c.args.left r cells)) c.extended.ensures
-    ∙ ap (finished c.args.self.now) (goes_on c.args.left c.args.run c.args.cell.now cells (search rules))
 
 pub returns-clause-written : goal.returns-clause-written
 returns-clause-written c cells =

@@ -2,7 +2,7 @@ use Rattle.std.proofs.Common.{◌≡◌, ◌∙◌, ◌++◌, false, inl, sym, a
 use Rattle.std.proofs.lemmas.Int.{ints}
 use Rattle.std.proofs.lemmas.Result.{on_ok_weaker}
 use Rattle.multistate_rle.specs.Pattern.{Strip}
-use Rattle.multistate_rle.proofs.Strips.{lies_within, side_by_side-strip}
+use Rattle.multistate_rle.proofs.Strips.{lies_within, side_by_side_strip}
 use Rattle.multistate_rle.proofs.drawing.Drawing.keep_strip.Goals as goal
 
 pub push_strip-requires : goal.push_strip-requires
@@ -32,6 +32,6 @@ returns-else-is_err c =
     let at = lies_within d.origin strip (rw (← c.self.view_is) at c.requires.inside) in
     let kept = on_ok_weaker c.push_strip.result
     (λ e. ap (λ cells. record { origin = d.origin; row = d.row; column = d.column; live = d.live; is_inside = d.is_inside; is_whole = d.is_whole; cells = cells })
-    (e ∙ ap (λ cells. d.cells.items ++ cells) (side_by_side-strip d.origin strip _ (omega (arith, ints)) (omega (arith, ints)) (omega arith))))
+    (e ∙ ap (λ cells. d.cells.items ++ cells) (side_by_side_strip d.origin strip _ (omega (arith, ints)) (omega (arith, ints)) (omega arith))))
     c.push_strip.ensures.cells in
     rw (← c.self.view_is) (inl (of_ok c.push_strip.result (sym c.is_err.ensures.value ∙ c.if-is_err.false) kept))

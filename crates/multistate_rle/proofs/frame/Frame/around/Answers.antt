@@ -1,13 +1,13 @@
-use Rattle.std.proofs.Common.{◌∙◌, sym, ap, rules}
+use Rattle.std.proofs.Common.{arith, ◌∙◌, sym, ap, rules}
 use Rattle.worlds.specs.Range.{IsBoundingBox}
 use Rattle.multistate_rle.specs.Frame.{frame_of}
-use Rattle.multistate_rle.proofs.Boxes.{box_of-blank, box_of-live, same_frame}
+use Rattle.multistate_rle.proofs.Boxes.{box_of_blank, box_of_live, same_frame}
 use Rattle.multistate_rle.proofs.frame.Frame.around.Goals as goal
 
 pub returns-in_default-clause-frame : goal.returns-in_default-clause-frame
-returns-in_default-clause-frame c = ap frame_of (sym (box_of-blank c.args.plane.now (search rules)))
+returns-in_default-clause-frame c = grind (arith, box_of_blank)
 
 pub returns-clause-frame : goal.returns-clause-frame
 returns-clause-frame c =
     let box : IsBoundingBox c.in-Some.bounds c.args.plane.now = search rules in
-    same_frame (search rules) (search rules) (search rules) (search rules) ∙ ap frame_of (sym (box_of-live c.args.plane.now c.in-Some.bounds box))
+    same_frame (search rules) (search rules) (search rules) (search rules) ∙ ap frame_of (sym (box_of_live c.args.plane.now c.in-Some.bounds box))
