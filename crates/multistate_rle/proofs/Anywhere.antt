@@ -42,11 +42,7 @@ world_if inside world = cond inside (Ok world) (Err CellOutOfRange)
 
 outcome-told : (many : Bool) (inside : Origin → Bool) (world : Origin → World) → IsTold (λ origin. cond many (Err TooManyLive) (world_if (inside origin) (world origin)))
 outcome-told true inside world = inl (TooManyLive, (refl, λ e. cc), λ origin. refl)
-outcome-told false inside world = inr (λ origin. by (inside origin) (world origin))
-  where
-    by : (b : Bool) (w : World) → IsOk (world_if b w) ⊎ (world_if b w ≡ Err CellOutOfRange)
-    by true w = inl refl
-    by false w = inr refl
+outcome-told false inside world = inr (λ origin. grind arith)
 
 drawn-told : (ss : List Symbol) → IsTold (λ origin. drawn_by origin ss)
 drawn-told ss = by (runs_from 0 ss) (runs-read 0 ss)

@@ -87,9 +87,8 @@ letter-read : (n q c s : ℕ) (rest : List ℕ) (runs : List Run) → c < 24 →
 letter-read n zero c s rest runs letter is small read = cell-read n (65 + c) s rest runs (letter-says (65 + c) s (omega arith) (omega arith) (omega arith)) read
 letter-read n (suc a) c s rest runs letter is small read = λ offset.
     let prefix : is_prefix (112 + a) ≡ true = grind (arith, nat_tests) in
-    ap (runs_from n) (prefix-one offset (112 + a) (65 + c) rest (omega arith, omega arith) (omega arith, omega arith) prefix)
-    ∙ ap (λ x. runs_from n (x ∷ symbols (solid_from (offset + 1 + 1) rest))) (prefixed-cell offset (offset + 1) a c s letter (omega arith) small)
-    ∙ ap (onto (Cells (max n 1) s)) (read (offset + 1 + 1))
+    let symbol = prefixed-cell offset (offset + 1) a c s letter (omega arith) small in
+    grind (arith, prefix-one, prefix, symbol, read (offset + 1 + 1))
 
 -- the text of a state
 state-read : (states n s : ℕ) (rest : List ℕ) (runs : List Run) → s < states → states ≤ 256 → ReadsAs 0 rest (Ok runs) → ReadsAs n (state_text states s ++ rest) (Ok (Cells (max n 1) s ∷ runs))

@@ -68,7 +68,7 @@ is_box w (c ∷ cells) is =
     let live : AreLive w (c ∷ cells) = subst (AreLive w) (sym is) (live-states w) in
     let here : 0 < cell w x y = omega (arith, live.0.0, live.0.1) in
     let all = grown-box w (grown None x y) cells (record { touched_left = (y, here); touched_right = (y, here); touched_top = (x, here); touched_bottom = (x, here) }) live.1 in
-    let first = all.1.holds_box x y (record { left = omega (arith, ints); right = omega (arith, ints); top = omega (arith, ints); bottom = omega (arith, ints) }) in
+    let first = all.1.holds_box x y (grind (arith, ints)) in
     subst (IsBoxOf w) (sym all.1.is) (record {
       holds = λ x' y' k. by_place (c ∷ cells) (λ x y _. IsInBox all.0 x y) (first, all.1.holds_cells) x' y'
           (subst (λ s. 0 < s) (cell-state_at w x' y' ∙ ap (λ cells. state_at cells (y', x')) (sym is)) k);
@@ -78,21 +78,17 @@ is_box w (c ∷ cells) is =
       touched_bottom = all.1.touches.touched_bottom;
     })
 
-same_edges : (a b : Bounds) → a.left ≡ b.left → a.top ≡ b.top → a.right ≡ b.right → a.bottom ≡ b.bottom → a ≡ b
-same_edges a b l t r m = λ i. record { left = l i; top = t i; right = r i; bottom = m i }
+-- a bounding box lies in any other, so there is one at most
+inside_box : (w : World) (a b : Bounds) → IsBoundingBox a w → IsBoundingBox b w → (b.left ≤ℤ a.left) × (b.top ≤ℤ a.top) × (a.right ≤ℤ b.right) × (a.bottom ≤ℤ b.bottom)
+inside_box w a b p q = (
+  (q.holds a.left p.touched_left.0 p.touched_left.1).left,
+  (q.holds p.touched_top.0 a.top p.touched_top.1).top,
+  (q.holds a.right p.touched_right.0 p.touched_right.1).right,
+  (q.holds p.touched_bottom.0 a.bottom p.touched_bottom.1).bottom,
+)
 
--- there is one bounding box at most
 one_box : (w : World) (a b : Bounds) → IsBoundingBox a w → IsBoundingBox b w → a ≡ b
-one_box w a b p q =
-    let al = q.holds a.left p.touched_left.0 p.touched_left.1 in
-    let bl = p.holds b.left q.touched_left.0 q.touched_left.1 in
-    let ar = q.holds a.right p.touched_right.0 p.touched_right.1 in
-    let br = p.holds b.right q.touched_right.0 q.touched_right.1 in
-    let at = q.holds p.touched_top.0 a.top p.touched_top.1 in
-    let bt = p.holds q.touched_top.0 b.top q.touched_top.1 in
-    let am = q.holds p.touched_bottom.0 a.bottom p.touched_bottom.1 in
-    let bm = p.holds q.touched_bottom.0 b.bottom q.touched_bottom.1 in
-    same_edges a b (omega (arith, ints, al, bl)) (omega (arith, ints, at, bt)) (omega (arith, ints, ar, br)) (omega (arith, ints, am, bm))
+one_box w a b p q = grind (arith, ints, inside_box w a b p q, inside_box w b a q p)
 
 dead-blank : (w : World) (x y : ℤ) → w ≡ blank → 0 < cell w x y → ⊥
 dead-blank w x y is live = let dead : cell w x y ≡ 0 = ap (λ v. cell v x y) is ∙ cell-blank x y in omega arith
@@ -129,23 +125,17 @@ pub record FrameFits (w : World) (f : Frame) : Type 0 where
 
 fits_box : (w : World) (o : Option Bounds) → HasMargin 0 w → IsBoxOf w o → FrameFits w (frame_of o)
 fits_box w None inside blank =
-    record {
-      left = record { low = omega (arith, ints); high = omega (arith, ints) };
-      top = record { low = omega (arith, ints); high = omega (arith, ints) };
-      width = omega arith;
-      height = omega arith;
-      holds = λ x y live. absurd (dead-blank w x y blank live);
-    }
+    let none = λ (x y : ℤ). dead-blank w x y blank in grind (arith, ints, none)
 fits_box w (Some b) inside box =
     let l = inside b.left box.touched_left.0 box.touched_left.1 in
     let r = inside b.right box.touched_right.0 box.touched_right.1 in
     let t = inside box.touched_top.0 b.top box.touched_top.1 in
     let m = inside box.touched_bottom.0 b.bottom box.touched_bottom.1 in
-    let wide = distance-near b.left b.right (omega (arith, ints, l), omega (arith, ints, l)) (omega (arith, ints, r), omega (arith, ints, r)) in
-    let high = distance-near b.top b.bottom (omega (arith, ints, t), omega (arith, ints, t)) (omega (arith, ints, m), omega (arith, ints, m)) in
+    let wide = distance-near b.left b.right (grind (arith, ints, l)) (grind (arith, ints, r)) in
+    let high = distance-near b.top b.bottom (grind (arith, ints, t)) (grind (arith, ints, m)) in
     record {
-      left = record { low = omega (arith, ints, l); high = omega (arith, ints, l) };
-      top = record { low = omega (arith, ints, t); high = omega (arith, ints, t) };
+      left = grind (arith, ints, l);
+      top = grind (arith, ints, t);
       width = omega (arith, wide);
       height = omega (arith, high);
       holds = λ x y live. ((box.holds x y live).left, (box.holds x y live).top);

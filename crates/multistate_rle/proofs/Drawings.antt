@@ -1,6 +1,6 @@
 -- A drawing of the runs that were read: at its end it tells what their strips tell.
 use Rattle.std.proofs.lemmas.Bool.Decides.{nat_tests}
-use Rattle.std.proofs.Common.{◌≡◌, ℕ, ◌+◌, ◌*◌, ◌≤◌, ◌==◌, ◌&&◌, Bool, true, false, cond, max, pos, ◌+ℤ◌, List, [], ◌∷◌, ◌++◌, Result, Ok, Err, nat_le, refl, sym, ap, ap₂, ◌∙◌, arith, tests, append_assoc, append-nil, IsOk}
+use Rattle.std.proofs.Common.{◌≡◌, ℕ, ◌+◌, ◌*◌, ◌≤◌, ◌==◌, ◌&&◌, true, cond, max, pos, ◌+ℤ◌, List, [], ◌∷◌, ◌++◌, Result, Ok, Err, nat_le, refl, sym, ap, ap₂, ◌∙◌, arith, tests, append_assoc, append-nil, IsOk}
 use Rattle.std.specs.List.{flat_map, list_all}
 use Rattle.std.proofs.lemmas.Bool.{and_parts, cond-true}
 use Rattle.std.proofs.lemmas.List.{flat_map_more}
@@ -11,7 +11,7 @@ use Rattle.worlds.specs.World.{World}
 use Rattle.basics.specs.Results.{◌>>=◌, Gives}
 use Rattle.multistate_rle.specs.declared.comment.Origin.{Origin}
 use Rattle.multistate_rle.specs.declared.fault.RleFault.{RleFault}
-use Rattle.multistate_rle.specs.declared.fault.RleFault.TheVariants.{TooManyLive, CellOutOfRange, NoMemory}
+use Rattle.multistate_rle.specs.declared.fault.RleFault.TheVariants.{NoMemory}
 use Rattle.multistate_rle.specs.declared.symbol.Symbol.{Symbol}
 use Rattle.multistate_rle.specs.declared.symbol.Symbol.TheVariants.{Digit, Cell, RowEnd}
 use Rattle.multistate_rle.specs.Pattern.{Run, Strip, onto, runs_from, strips_from, live_count, is_in_range, lies_inside, cells_of, world_of, drawn_by}
@@ -86,11 +86,8 @@ follows-cells : {origin : Origin} {d : Drawn} {front : Front} (m n s : ℕ) → 
     → Follows origin (after_cells d n s) (front_behind front m s)
 follows-cells {origin} {d} {front} m n s placed some h =
     let at : d.column ≡ capped front.column = h.column in
-    elim (s == 0) as (λ b. Follows origin (record (cond b d (with_strip d (strip_at d n s))) { column = capped (d.column + n) })
-    (record front { column = front.column + m; strips = cond b front.strips (front.strips ++ strip_from front m s ∷ []) })) [
-      | true ↦ record { begun = h.begun; row = h.row; column = omega arith; live = h.live; inside = h.inside; cells = h.cells }
-      | false ↦ follows-strip m n s placed some h
-    ]
+    let strip = follows-strip {origin = origin} {d = d} {front = front} m n s placed some h in
+    grind (arith, nat_tests, strip)
 
 -- the same where a growth may have been refused
 follows-like : {origin : Origin} {d e : Drawn} {front : Front} → IsLike d e → Follows origin d front → Follows origin e front
@@ -101,17 +98,11 @@ pub record IsEnd (now all : Result World RleFault) : Type 0 where
   pub gives : (r : Result World RleFault) → Gives NoMemory r now → Gives NoMemory r all
   pub sound : WantsAlone now → IsOk all
 
-abbrev outcome : Bool → Bool → Bool → World → Result World RleFault
-outcome many inside whole w = cond many (Err TooManyLive) (cond inside (cond whole (Ok w) (Err NoMemory)) (Err CellOutOfRange))
-
 wanted : (all r : Result World RleFault) → Gives NoMemory r (Err NoMemory) → Gives NoMemory r all
 wanted all r h = grind (arith)
 
-ends : (many inside whole : Bool) (v w : World) → (many ≡ false → inside ≡ true → whole ≡ true → v ≡ w) → IsEnd (outcome many inside whole v) (outcome many inside true w)
-ends many inside whole v w same = grind (arith, wanted)
-
 follows-end : {origin : Origin} {d : Drawn} {front : Front} → Follows origin d front → IsEnd (world_drawn d) (world_of origin front.strips)
-follows-end {origin} {d} {front} h = grind (arith, nat_tests, tests, ends)
+follows-end h = grind (arith, nat_tests, tests, wanted)
 
 -- what the symbols that are left draw from there on, where the digits before them write n
 abbrev pub drawn_on : Origin → Front → ℕ → List Symbol → Result World RleFault
@@ -154,7 +145,7 @@ begun-rows {origin} {all} {left} {d} {count} e m rest some is ended h =
       digits = 0;
       front = record h.front { row = h.front.row + max h.digits 1; column = 0 };
       counted = refl;
-      follows = rw ended (record { begun = f.begun; row = omega arith; column = refl; live = f.live; inside = f.inside; cells = f.cells });
+      follows = grind (arith, f, down, counted);
       drawn = h.drawn ∙ ap (drawn_on origin h.front h.digits) is ∙ first_run (RowEnds (max h.digits 1)) (runs_from 0 rest) _;
     }
 

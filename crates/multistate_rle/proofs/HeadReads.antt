@@ -1,23 +1,40 @@
 -- The two lines before a written body read back: the comment gives the place and the generation, the header the name.
-use Rattle.std.proofs.Common.{◌≡◌, ◌∙◌, sym, ap, ap₂, refl, ℕ, suc, ◌-◌, ◌^◌, ◌<◌, ◌≤◌, ◌==◌, ◌||◌, Bool, true, false, not, min, ℤ, pos, List, [], ◌∷◌, ◌++◌, length, arith, Some, decimal, append-nil, negsuc, neg_ℤ, ◌≤ℤ◌, ◌<ℤ◌, codes, fold, Ok, option_map, bytes_eq}
+use Rattle.std.proofs.Common.{None, ◌≡◌, ◌∙◌, ap, refl, ℕ, suc, ◌-◌, ◌^◌, ◌<◌, ◌≤◌, ◌==◌, Bool, true, false, not, min, ℤ, pos, List, [], ◌∷◌, ◌++◌, length, arith, Some, decimal, append-nil, negsuc, neg_ℤ, ◌≤ℤ◌, ◌<ℤ◌, codes, fold, Ok, bytes_eq}
 use Rattle.std.specs.Fmt.{signed_decimal}
 use Rattle.std.specs.List.{All, AllByRecursion, list_all}
-use Rattle.std.proofs.lemmas.Bool.{or_from}
 use Rattle.std.proofs.lemmas.Grind.{fold-append}
 use Rattle.std.proofs.lemmas.Int.{ints}
 use Rattle.std.proofs.lemmas.List.Elements.{All-from_recursion}
 use Rattle.std.proofs.lemmas.List.Splits.{slice_split_at, slice_split_none}
+use Rattle.std.proofs.Math.Seq.{take-append_seam, drop-append-add}
+use Rattle.std.proofs.lemmas.Bool.{not-true, or_from}
+use Rattle.std.proofs.lemmas.Bool.Decides.{nat_tests}
+use Rattle.text_lines.proofs.Shared.Pieces.{position-at, position-none}
 use Rattle.basics.proofs.Shared.Lists.{all_append, all_so}
 use Rattle.text_lines.specs.Blanks.{is_blank, trim}
 use Rattle.text_lines.specs.Numbers.{number_of}
 use Rattle.text_lines.specs.RuleNames.{IsName, IsNameByte}
-use Rattle.text_lines.proofs.Shared.ByteRanges.{IsDigit, IsPrinted, IsVisible, is_printed, is_visible, differs, printed-tested, visible-printed, visible-solid, visible-tested}
+use Rattle.text_lines.proofs.Shared.ByteRanges.{all_tested, IsDigit, IsPrinted, IsVisible, is_printed, is_visible, differs, printed-tested, visible-printed, visible-solid, visible-tested}
 use Rattle.text_lines.proofs.Shared.Decimals.{decimal-bytes, decimal-some, number_of-decimal}
 use Rattle.text_lines.proofs.Shared.PrintedLines.{IsLine, ends-append, ends-behind, ends-visible, name-visible, trim-blank}
-use Rattle.multistate_rle.specs.Comments.{is_sign, starts_loose, tight, parts, signed_of, coordinate_of, place_in, generation_in, plain_origin, after_part, after_comment}
+use Rattle.multistate_rle.specs.Comments.{is_sign, tight, parts, signed_of, coordinate_of, place_in, generation_in, plain_origin, after_part, after_comment}
 use Rattle.multistate_rle.specs.Cut.{cut_at}
 use Rattle.multistate_rle.specs.Header.{value_in, size_in, name_after_width, rule_name}
-use Rattle.multistate_rle.proofs.Cuts.{IsOther, others, cut-first, cut-none}
+
+-- a byte that isn't this one
+abbrev IsOther : ℕ → ℕ → Type 0
+IsOther byte b = (b == byte) ≡ false
+
+others : (byte : ℕ) (bs : List ℕ) → list_all (λ b. not (b == byte)) bs ≡ true → AllByRecursion (IsOther byte) bs
+others byte bs h = all_tested (IsOther byte) (λ b. not (b == byte)) bs (λ b k. not-true (b == byte) k) h
+
+-- bytes with the first of this kind between two parts
+cut-first : (byte : ℕ) (xs ys : List ℕ) → AllByRecursion (IsOther byte) xs → cut_at byte (xs ++ byte ∷ ys) ≡ Some (xs, ys)
+cut-first byte xs ys h = grind (arith, nat_tests, position-at, take-append_seam, drop-append-add)
+
+-- bytes with none of this kind
+cut-none : (byte : ℕ) (xs : List ℕ) → AllByRecursion (IsOther byte) xs → cut_at byte xs ≡ None
+cut-none byte xs h = rw (position-none (λ b. b == byte) xs h) refl
 
 -- a digit or a minus
 abbrev IsNumeric : ℕ → Type 0
@@ -48,13 +65,9 @@ signed_of-digits ds n some h is = grind (arith, differs)
 
 signed_of-signed : (z : ℤ) → IsCoordinate z → signed_of (signed_decimal z) ≡ Some z
 signed_of-signed (pos n) h =
-    let high = h.high in
-    let small : n < 2 ^ 64 = omega (arith, ints, high) in
+    let small : n < 2 ^ 64 = grind (arith, ints) in
     signed_of-digits (decimal n) n (decimal-some n small) (decimal-bytes n small) (number_of-decimal n small)
-signed_of-signed (negsuc n) h =
-    let low = h.low in
-    let small : suc n < 2 ^ 64 = omega (arith, ints, low) in
-    ap (option_map (λ n. neg_ℤ (pos n))) (number_of-decimal (suc n) small)
+signed_of-signed (negsuc n) h = let small : suc n < 2 ^ 64 = grind (arith, ints) in grind (arith, number_of-decimal)
 
 coordinate-reads : (z : ℤ) → IsCoordinate z → coordinate_of (signed_decimal z) ≡ Some z
 coordinate-reads z h = let low = h.low in let high = h.high in rw (signed_of-signed z h) (grind (arith, ints))
@@ -85,9 +98,9 @@ joined-numeric joined (b ∷ c ∷ bs) some h = joined-numeric (is_sign b) (c �
 -- two words with a blank before each
 tight-words : (xs ys : List ℕ) (b : ℕ) → AllByRecursion IsVisible xs → joined_behind true xs ≡ false → AllByRecursion IsVisible (b ∷ ys) → is_sign b ≡ false → tight true (32 ∷ (xs ++ 32 ∷ b ∷ ys)) ≡ xs ++ 32 ∷ b ∷ ys
 tight-words xs ys b h loosely k apart =
-    let loose : starts_loose (b ∷ ys) ≡ false = ap₂ (λ c d. c || d) (visible-solid b k.0) apart in
-    tight-visible true xs (32 ∷ b ∷ ys) h
-    ∙ rw loosely (rw loose (ap (λ bs. xs ++ 32 ∷ bs) (ap (tight false) (sym (append-nil (b ∷ ys))) ∙ tight-visible false (b ∷ ys) [] k ∙ append-nil (b ∷ ys))))
+    let first = tight-visible true xs (32 ∷ b ∷ ys) h in
+    let last = tight-visible false (b ∷ ys) [] k in
+    grind (arith, append-nil, visible-solid, first, last)
 
 solids : (bs : List ℕ) → AllByRecursion IsVisible bs → All (λ b. is_blank b ≡ false) bs
 solids bs h = All-from_recursion (λ b. is_blank b ≡ false) bs (all_so IsVisible (λ b. is_blank b ≡ false) bs visible-solid h)

@@ -1,7 +1,6 @@
 mod Anywhere
 pub mod BodyReads
 pub mod Boxes
-pub mod Cuts
 mod Drawings
 pub mod HeadReads
 pub mod LiveCells

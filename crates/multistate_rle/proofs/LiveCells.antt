@@ -1,6 +1,6 @@
 -- The live cells of a world: their order, their tokens, and the world that they make.
 use Rattle.std.proofs.lemmas.Int.{ints}
-use Rattle.std.proofs.Common.{◌≡◌, ◌∙◌, sym, ap, subst, refl, ℕ, ◌+◌, ◌-◌, ◌<◌, ◌≤◌, ◌^◌, true, false, cond, ℤ, pos, ◌+ℤ◌, List, [], ◌∷◌, length, map, arith, None, Some, T, inl, inr, ◌⊎◌, ◌≤ℤ◌, ◌<ℤ◌, unwrap_or, Ordering}
+use Rattle.std.proofs.Common.{◌≡◌, ◌∙◌, sym, ap, subst, refl, ℕ, ◌+◌, ◌-◌, ◌<◌, ◌≤◌, ◌^◌, ℤ, pos, ◌+ℤ◌, List, [], ◌∷◌, length, map, arith, None, T, inl, inr, ◌⊎◌, ◌≤ℤ◌, ◌<ℤ◌, unwrap_or, Ordering}
 use Rattle.std.specs.Ordering.{MatchOrdering, ordering_then, is_lt}
 use Rattle.std.specs.Cmp.{int_ranks}
 use Rattle.std.specs.List.{All, AllByRecursion}
@@ -33,12 +33,7 @@ IsListedIn w e = (cell w e.0.1 e.0.0 ≡ e.1) × (0 < e.1)
 mentioned : (w : World) (es : List (Place × ℕ)) (x y : ℤ) (s : ℕ) → AllByRecursion (IsListedIn w) es → (lookup (same_place (y, x)) es ≡ None → s ≡ cell w x y)
     → last_mention (map set_of es) x y s ≡ cell w x y
 mentioned w [] x y s h is = is refl
-mentioned w (e ∷ es) x y s h is =
-    elim (same_place (y, x) e.0) as (λ b. same_place (y, x) e.0 ≡ b → (cond b (Some e.1) (lookup (same_place (y, x)) es) ≡ None → s ≡ cell w x y)
-    → last_mention (map set_of es) x y (cond b e.1 s) ≡ cell w x y) [
-      | true ↦ λ same k. mentioned w es x y e.1 h.1 (λ none. sym h.0.0 ∙ sym (ap (λ (p : Place). cell w p.1 p.0) (same_is (y, x) e.0 same)))
-      | false ↦ λ apart k. mentioned w es x y s h.1 k
-    ] refl is
+mentioned w (e ∷ es) x y s h is = grind (arith, same_is (y, x) e.0, mentioned w es x y e.1 h.1, mentioned w es x y s h.1)
 
 -- the live cells, laid on the blank world, make the world
 pub lay-live : (w : World) → lay (map set_of (live w)) blank ≡ w

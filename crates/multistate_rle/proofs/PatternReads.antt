@@ -35,7 +35,7 @@ use Rattle.basics.proofs.Shared.Lists.{all_so}
 use Rattle.text_lines.proofs.Shared.LineEnds.{line-first}
 use Rattle.text_lines.proofs.Shared.PrintedLines.{IsLine, printed-one, strip-printed}
 use Rattle.multistate_rle.proofs.HeadReads.{IsCoordinate, comment_line, comment-reads, header_line, header-reads, comment-is_line, header-is_line}
-use Rattle.multistate_rle.proofs.Boxes.{IsNear, FrameFits, frame-fits}
+use Rattle.multistate_rle.proofs.Boxes.{FrameFits, frame-fits}
 use Rattle.multistate_rle.proofs.LiveCells.{IsCellOf, lay-live, live-ahead, tokens-writable}
 use Rattle.multistate_rle.proofs.StripCells.{set_of, drawn, IsLaidInside, drawn-tokens, live_count-drawn, drawn-inside}
 
@@ -68,8 +68,8 @@ two_lines first second = (0 + length (first ++ 10 ∷ [])) + length (second ++ 1
 body-left : (first second body : List ℕ) → drop (two_lines first second) (first ++ 10 ∷ (second ++ 10 ∷ body)) ≡ body
 body-left first second body =
     let whole : first ++ 10 ∷ (second ++ 10 ∷ body) ≡ ((first ++ 10 ∷ []) ++ (second ++ 10 ∷ [])) ++ body = simp append_assoc in
-    let long : two_lines first second ≡ length ((first ++ 10 ∷ []) ++ (second ++ 10 ∷ [])) = omega (arith, length-append (first ++ 10 ∷ []) (second ++ 10 ∷ [])) in
-    ap₂ drop long whole ∙ drop-append_seam ((first ++ 10 ∷ []) ++ (second ++ 10 ∷ [])) body
+    let long = length-append (first ++ 10 ∷ []) (second ++ 10 ∷ []) in
+    rw whole (grind (arith, long, drop-append_seam ((first ++ 10 ∷ []) ++ (second ++ 10 ∷ [])) body))
 
 -- the head that the two lines give
 head-reads : (x y : ℤ) (n width height : ℕ) (name body : List ℕ) → IsCoordinate x → IsCoordinate y → n < 2 ^ 64 → width < 2 ^ 64 → height < 2 ^ 64 → IsName name
@@ -112,11 +112,8 @@ module _ (w : World) (f : Frame) (n states : ℕ) (fits : FrameFits w f) (can : 
 
   writable : AllByRecursion (IsWritable most states) written
   writable =
-      let left = fits.left in
-      let top = fits.top in
-      let x : IsNear f.left = (omega (arith, ints, left), omega (arith, ints, left)) in
-      let y : IsNear f.top = (omega (arith, ints, top), omega (arith, ints, top)) in
-      tokens-writable most states f.left f.top (f.top, f.left) (live w) (omega arith) (omega arith) x (y, x) cells
+      tokens-writable most states f.left f.top (f.top, f.left) (live w) (omega arith) (omega arith)
+      (grind (arith, ints, fits.left)) (grind (arith, ints, fits.top), grind (arith, ints, fits.left)) cells
 
   -- the strips of its tokens draw the world
   world-drawn : world_of origin (strips_from 0 0 (runs_of written)) ≡ Ok w
@@ -125,8 +122,7 @@ module _ (w : World) (f : Frame) (n states : ℕ) (fits : FrameFits w f) (can : 
       let corner = live-ahead w states f.left f.top cells in
       let same : drawn origin 0 0 written ≡ map set_of (live w) = drawn-tokens origin 0 0 (f.top, f.left) (live w) (omega (arith, ints)) (omega (arith, ints)) corner in
       let count : live_count strips ≡ length (live w) = live_count-drawn origin strips ∙ ap length same ∙ length-map (live w) set_of in
-      let least : length (live w) ≤ 1000000 = can.few in
-      let few : nat_lt 16777216 (live_count strips) ≡ false = grind (arith, nat_tests) in
+      let few : nat_lt 16777216 (live_count strips) ≡ false = grind (arith, nat_tests, count, can.few) in
       let inside : list_all (lies_inside origin) strips ≡ true =
       drawn-inside most states 0 0 origin written writable (subst (AllByRecursion IsLaidInside) (sym same) (laid-inside states f.left f.top (live w) cells)) in
       (λ i. cond (few i) (Err TooManyLive) (cond (inside i) (Ok (lay (same i) blank)) (Err CellOutOfRange))) ∙ ap (λ v. Ok v) (lay-live w)
@@ -134,8 +130,7 @@ module _ (w : World) (f : Frame) (n states : ℕ) (fits : FrameFits w f) (can : 
   -- its body gives the world, wherever it stands
   body-reads : (offset : ℕ) → states ≤ 256 → drawn_by origin (symbols (solid_from offset (packed 70 (map (token_text states) written)))) ≡ Ok w
   body-reads offset fit =
-      let least : length (live w) ≤ 1000000 = can.few in
-      ap (λ read. read >>= λ runs. world_of origin (strips_from 0 0 runs)) (packed-reads most states written 70 (omega arith) fit writable offset) ∙ world-drawn
+      ap (λ read. read >>= λ runs. world_of origin (strips_from 0 0 runs)) (packed-reads most states written 70 (omega (arith, can.few)) fit writable offset) ∙ world-drawn
 
 -- a pattern that is written in a frame
 framed-means : (w : World) (f : Frame) (name : List ℕ) (n states : ℕ) → FrameFits w f → IsName name → n < 2 ^ 64 → 2 ≤ states → states ≤ 256 → CanBeWritten states w

@@ -1,7 +1,6 @@
 -- The strips that tokens draw, as cells: those that the tokens were made of.
-use Rattle.std.proofs.Common.{◌≡◌, ◌∙◌, ap, ap₂, subst, refl, ℕ, suc, ◌+◌, ◌-◌, ◌<◌, ◌^◌, ◌==◌, true, false, cond, ℤ, pos, ◌+ℤ◌, List, [], ◌∷◌, ◌++◌, length, map, arith, ⊎_elim, ◌⊎◌, neg_ℤ, ◌≤ℤ◌, ◌<ℤ◌, length-append}
+use Rattle.std.proofs.Common.{◌≡◌, ◌∙◌, ap, ap₂, subst, refl, ℕ, suc, ◌+◌, ◌-◌, ◌<◌, ◌^◌, true, ℤ, pos, ◌+ℤ◌, List, [], ◌∷◌, ◌++◌, length, map, arith, ⊎_elim, ◌⊎◌, neg_ℤ, ◌≤ℤ◌, ◌<ℤ◌, length-append}
 use Rattle.std.specs.List.{AllByRecursion, flat_map, list_all, range_with_len}
-use Rattle.std.proofs.lemmas.Bool.{and_from}
 use Rattle.std.proofs.lemmas.Int.{ints}
 use Rattle.std.proofs.lemmas.List.Elements.{All-from_recursion}
 use Rattle.std.proofs.lemmas.List.FromFn.{fill_by_all, get_or-map-range_with_len, length-map-range_with_len}
@@ -14,7 +13,7 @@ use Rattle.multistate_rle.specs.declared.comment.Origin.{Origin}
 use Rattle.multistate_rle.specs.declared.token.Token.{Token}
 use Rattle.multistate_rle.specs.declared.token.Token.TheVariants as token
 use Rattle.multistate_rle.specs.Pattern.{Strip, strips_from, live_count, is_in_range, lies_inside, cell_at, cells_of}
-use Rattle.multistate_rle.specs.Token.{distance, zeros, way_by, way, joined, tokens, behind}
+use Rattle.multistate_rle.specs.Token.{distance, zeros, way, joined, tokens, behind}
 use Rattle.multistate_rle.proofs.BodyReads.{IsWritable, runs_of}
 use Rattle.text_lines.proofs.Shared.ByteRanges.{differs}
 use Rattle.multistate_rle.proofs.Runs.{way_rows}
@@ -76,20 +75,16 @@ drawn-way : (origin : Origin) (row column : ℕ) (from to : Place) (ts : List To
     → drawn origin row column (way origin.x from to ++ ts) ≡ cells
 drawn-way origin row column from to ts cells y x ahead arrive =
     let rows : ℕ = distance from.0 to.0 in
+    let down = distance-to from.0 to.0 in
+    let on = distance-to origin.x to.1 ahead.0 in
+    let here = distance-to from.1 to.1 in
     ⊎_elim
     (λ (below : from.0 <ℤ to.0).
-    let down = distance-to from.0 to.0 (omega (arith, ints, below)) in
-    let on = distance-to origin.x to.1 ahead.0 in
-    ap (λ way. drawn origin row column (way ++ ts)) (way_rows rows origin.x from to (λ none. omega (arith, ints, down, below, none)))
-    ∙ drawn-zeros origin (row + rows) 0 (distance origin.x to.1) ts
-    ∙ arrive (row + rows) (0 + distance origin.x to.1) (omega (arith, ints, down, y)) (omega (arith, ints, on)))
-    (λ (here : (from.0 ≡ to.0) × (from.1 ≤ℤ to.1)).
-    let down = distance-to from.0 to.0 (omega (arith, ints, here.0)) in
-    let none : rows ≡ 0 = omega (arith, ints, down, here.0) in
-    let on = distance-to from.1 to.1 here.1 in
-    ap (λ n. drawn origin row column (way_by n origin.x from to ++ ts)) none
-    ∙ drawn-zeros origin row column (distance from.1 to.1) ts
-    ∙ arrive row (column + distance from.1 to.1) (y ∙ here.0) (omega (arith, ints, on, x)))
+    let far = arrive (row + rows) (0 + distance origin.x to.1) (omega (arith, ints, down, y)) (omega (arith, ints, on)) in
+    grind (arith, ints, way_rows, drawn-zeros, down, far))
+    (λ (same : (from.0 ≡ to.0) × (from.1 ≤ℤ to.1)).
+    let far = arrive row (column + distance from.1 to.1) (y ∙ same.0) (omega (arith, ints, here, x)) in
+    grind (arith, ints, drawn-zeros, down, far))
     ahead.1
 
 -- the cells that tokens draw are those of which they are the tokens
@@ -128,10 +123,7 @@ strip-inside : (origin : Origin) (strip : Strip) → 0 < strip.count → AllByRe
 strip-inside origin strip some h =
     let first = one_of_range IsLaidInside (cell_at origin strip) strip.count 0 some h in
     let last = one_of_range IsLaidInside (cell_at origin strip) strip.count (strip.count - 1) (omega arith) h in
-    let a = first.left in let b = first.right in let c = first.top in let d = first.bottom in let e = last.left in let f = last.right in
-    and_from _ _ (in_range (origin.x +ℤ pos strip.column) (omega (arith, ints, a)) (omega (arith, ints, b)))
-    (and_from _ _ (in_range (origin.x +ℤ pos (strip.column + strip.count - 1)) (omega (arith, ints, e)) (omega (arith, ints, f)))
-    (in_range (origin.y +ℤ pos strip.row) (omega (arith, ints, c)) (omega (arith, ints, d))))
+    grind (arith, ints, in_range, first, last)
 
 -- strips of cells in the range of planes lie in it
 pub drawn-inside : (most states row column : ℕ) (origin : Origin) (ts : List Token) → AllByRecursion (IsWritable most states) ts
@@ -141,11 +133,5 @@ drawn-inside most states row column origin (token.End ∷ ts) h inside = refl
 drawn-inside most states row column origin (token.RowEnds n ∷ ts) h inside = drawn-inside most states (row + n) 0 origin ts h.1 inside
 drawn-inside most states row column origin (token.Run n s ∷ ts) h inside =
     let strip : Strip = record { row = row; column = column; count = n; state = s } in
-    let later : List Strip = strips_from row (column + n) (runs_of ts) in
-    elim (s == 0) as (λ v. AllByRecursion IsLaidInside (flat_map (cells_of origin) (cond v later (strip ∷ later)))
-    → list_all (lies_inside origin) (cond v later (strip ∷ later)) ≡ true) [
-      | true ↦ λ k. drawn-inside most states row (column + n) origin ts h.1 k
-      | false ↦ λ k.
-          let parts = all_parts IsLaidInside (cells_of origin strip) (flat_map (cells_of origin) later) k in
-          and_from _ _ (strip-inside origin strip h.0.0 parts.0) (drawn-inside most states row (column + n) origin ts h.1 parts.1)
-    ] inside
+    let parts = all_parts IsLaidInside (cells_of origin strip) (flat_map (cells_of origin) (strips_from row (column + n) (runs_of ts))) in
+    grind (arith, nat_tests, parts, strip-inside origin strip h.0.0, drawn-inside most states row (column + n) origin ts h.1)
