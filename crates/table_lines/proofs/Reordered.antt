@@ -8,7 +8,7 @@ use Rattle.rule_file.specs.RuleFile.{NumberedLine}
 use Rattle.table_lines.specs.declared.descriptors.Descriptor.{Descriptor}
 use Rattle.table_lines.specs.declared.descriptors.Head.{Head}
 use Rattle.table_lines.specs.declared.descriptors.Descriptor.TheVariants as descriptor
-use Rattle.table_lines.specs.Descriptors.{Described, describe, descriptor_of, head_from, undescribed}
+use Rattle.table_lines.specs.Descriptors.{Described, describe, descriptor_of, head_from}
 use Rattle.table_lines.specs.LineLaws.{DescriptorsInAnyOrder, is_descriptor}
 use Rattle.table_lines.proofs.Steps.{step, step-later}
 use Rattle.rule_file.proofs.Shared.Readings.{GivesToo, then_too}
@@ -66,6 +66,5 @@ head_from-swapped (first ∷ front) rest line next d h k l =
     let parts = and_parts (is_descriptor first) (list_all is_descriptor front) h in
     step-later (descriptor_of first.text) _ _ _ _ _ parts.0 (λ e. head_from-swapped front rest line next e parts.1 k l)
 
-pub descriptors-swapped : DescriptorsInAnyOrder
-descriptors-swapped front line next rest table h k l =
-    then_too (head_from undescribed (front ++ line ∷ next ∷ rest)) (head_from undescribed (front ++ next ∷ line ∷ rest)) _ _ (head_from-swapped front rest line next undescribed h k l) (λ found x is. is) table
+pub descriptors_swapped : DescriptorsInAnyOrder
+descriptors_swapped front line next rest table h k l = grind (arith, then_too, head_from-swapped)

@@ -1,8 +1,6 @@
 -- The head that lines describe: how many states it has, and that its symmetry is one of its neighbourhood.
 use Rattle.std.proofs.Common.{◌≡◌, ℕ, ◌≤◌, Bool, true, List, [], ◌∷◌, length, Some, Ok, arith}
 use Rattle.std.specs.Prelude.{find, IfSome}
-use Rattle.std.specs.Str.{bytes_eq}
-use lib.Pointwise.{bytes_decides}
 use Rattle.std.proofs.lemmas.Bool.Decides.{nat_tests}
 use Rattle.basics.specs.Results.{◌>>=◌}
 use Rattle.rule_file.specs.RuleFile.{NumberedLine}
@@ -13,7 +11,7 @@ use Rattle.table_lines.specs.Descriptors.{Described, describe, descriptor_of, he
 use Rattle.table_lines.specs.declared.symmetry.Symmetry.{Symmetry}
 use Rattle.table_lines.specs.declared.neighborhood.Neighborhood.{Neighborhood}
 use Rattle.table_lines.proofs.Steps.{by_step}
-use Rattle.table_lines.specs.Symmetry.{name_of_symmetry, symmetries_of, symmetry_named}
+use Rattle.table_lines.specs.Symmetry.{name_of_symmetry, symmetry_named}
 
 -- what was described of the states is within the limits
 abbrev pub HasStates : Described → Type 0
@@ -35,9 +33,7 @@ HasSymmetry head = symmetry_named head.neighborhood (name_of_symmetry head.symme
 
 -- a symmetry that was found by a name is found by its own
 symmetry_named-again : (m : Neighborhood) (name : List ℕ) (s : Symmetry) → symmetry_named m name ≡ Some s → symmetry_named m (name_of_symmetry s) ≡ Some s
-symmetry_named-again m name s h =
-    let same : name ≡ name_of_symmetry s = (bytes_decides name (name_of_symmetry s)).0 (find-passes (λ t. bytes_eq name (name_of_symmetry t)) (symmetries_of m) s h) in
-    rw (← same) h
+symmetry_named-again m name s h = grind (arith, find-passes)
 
 -- such a head, and no more lines are left than there were
 pub record IsHead (count : ℕ) (found : Head × List NumberedLine) : Type 0 where

@@ -38,8 +38,7 @@ variables_after-below head variables more line below h name v is = grind (arith,
 
 -- a list that is read, behind other values
 pub behind-push : {A : Type 0} (front : List A) (x : A) (read : Result (List A) RuleFault) → behind (front ++ x ∷ []) read ≡ behind front (read >>= λ xs. Ok (x ∷ xs))
-behind-push front x (Ok xs) = ap Ok (append_assoc front (x ∷ []) xs)
-behind-push front x (Err e) = refl
+behind-push front x read = grind (arith, append_assoc)
 
 -- two sets as one
 union-two : (a b : List ℕ) (sets : List (List ℕ)) → union (rising (λ s. has a s || has b s) ∷ sets) ≡ union (a ∷ b ∷ sets)
@@ -78,10 +77,7 @@ module _ (n : ℕ) (variables : Variables) (number : ℕ) (members : List (List 
   -- a member was read of which a state is too high
   pub so_far-high : (member : List ℕ) (left : List (List ℕ)) (set : List ℕ) (is_below : Bool) → SoFar (member ∷ left) set is_below
       → member_set n variables number member ≡ Ok None → SoFar left set false
-  so_far-high member left set is_below known is = record {
-    rising = known.rising;
-    read = sym (union_of-high n number set is_below (states_or_fault variables number member) _ is) ∙ known.read;
-  }
+  so_far-high member left set is_below known is = grind (arith, union_of-high)
 
   -- all members were read
   pub so_far-all : (set : List ℕ) → SoFar [] set true → set_of n variables number members ≡ Ok set

@@ -85,8 +85,7 @@ parts-joined (w ∷ words) some h = split w words h
 pub fields-joined : (states : ℕ) (words : List (List ℕ)) → 2 ≤ length words → AllByRecursion IsField words → fields states (join_with_byte 44 words) ≡ words
 fields-joined states [] some h = absurd (omega arith)
 fields-joined states (word ∷ []) some h = absurd (omega arith)
-fields-joined states (word ∷ next ∷ words) some h =
-    rw (list_any-append (λ b. b == 44) word (44 ∷ join_with_byte 44 (next ∷ words)), or-true, and-false) (parts-joined (word ∷ next ∷ words) (omega arith) h)
+fields-joined states (word ∷ next ∷ words) some h = rw (list_any-append (λ b. b == 44) word (44 ∷ join_with_byte 44 (next ∷ words)), or-true, and-false) (parts-joined (word ∷ next ∷ words) (omega arith) h)
 
 -- the variables are these sets, by the names that are written
 pub record AreNamed (variables : Variables) (sets : List (List ℕ)) : Type 0 where
@@ -95,8 +94,7 @@ pub record AreNamed (variables : Variables) (sets : List (List ℕ)) : Type 0 wh
 
 -- entries read back
 entry-read : (n number : ℕ) (variables : Variables) (sets : List (List ℕ)) (e : Entry) → n ≤ 256 → AreNamed variables sets → IsEntryOf n sets e → entry_of n variables number (entry_text e) ≡ Ok e
-entry-read n number variables sets (State s) low are is = grind (arith, nat_tests, number_of-decimal s (omega (arith, is)))
-entry-read n number variables sets (OneOf v) low are is = rw (are.named v.number is.0, is.1)
+entry-read n number variables sets e low are is = grind (arith, nat_tests, number_of-decimal)
 
 pub entries-read : (n number : ℕ) (variables : Variables) (sets : List (List ℕ)) (entries : List Entry) → n ≤ 256 → AreNamed variables sets
     → AllByRecursion (IsEntryOf n sets) entries → each (entry_of n variables number) (map entry_text entries) ≡ Ok entries
@@ -105,6 +103,4 @@ entries-read n number variables sets (e ∷ entries) low are h = rw (entry-read 
 
 -- a line without an a defines no variable
 pub defines_none : (line : List ℕ) → AllByRecursion (λ b. (b == 97) ≡ false) line → defines_variable line ≡ false
-defines_none [] h = refl
-defines_none (b ∷ []) h = grind (arith, nat_tests)
-defines_none (b ∷ c ∷ line) h = grind (arith, nat_tests, h.1.0)
+defines_none line h = grind (arith, nat_tests)

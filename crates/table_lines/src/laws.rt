@@ -8,6 +8,7 @@ pub fn numbers_do_not_matter()
 {}
 
 /// Two descriptors, one after the other, may stand in the other order, and so all three in any.
+#[tactic(auto, using(crate::proofs::Reordered::descriptors_swapped))]
 pub fn descriptors_stand_in_any_order()
     ensures { DescriptorsInAnyOrder }
 {}

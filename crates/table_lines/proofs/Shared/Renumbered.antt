@@ -1,5 +1,6 @@
 -- Lines that say a table say it under other numbers too.
-use Rattle.std.proofs.Common.{◌≡◌, ℕ, ◌+◌, ◌==◌, Bool, if◌then◌else◌, List, [], ◌∷◌, length, map, Result, Ok, Err, is_some, arith, ap}
+use Rattle.std.proofs.lemmas.Bool.Decides.{nat_tests}
+use Rattle.std.proofs.Common.{◌≡◌, ℕ, Bool, if◌then◌else◌, List, [], ◌∷◌, map, Result, Ok, Err, is_some, arith, ap}
 use Rattle.basics.specs.Results.{◌>>=◌}
 use Rattle.rule_file.specs.declared.fault.RuleFault.{RuleFault}
 use Rattle.rule_file.specs.declared.fault.RuleFault.TheVariants.{BadVariable}
@@ -7,14 +8,12 @@ use Rattle.rule_file.specs.RuleFile.{NumberedLine}
 use Rattle.table_lines.specs.declared.descriptors.Descriptor.{Descriptor}
 use Rattle.table_lines.specs.declared.descriptors.Head.{Head}
 use Rattle.table_lines.specs.Descriptors.{Described, describe, descriptor_of, head_from, head_of, undescribed}
-use Rattle.table_lines.specs.Fields.{fields}
 use Rattle.table_lines.specs.LineLaws.{NumbersDoNotMatter}
-use Rattle.table_lines.specs.Neighborhood.{places_of}
 use Rattle.table_lines.specs.Table.{Table, headed}
-use Rattle.table_lines.specs.Transitions.{entry_of, transition_of, transitions_of}
+use Rattle.table_lines.specs.Transitions.{transition_of, transitions_of}
 use Rattle.table_lines.proofs.Steps.{step-too}
 use Rattle.rule_file.proofs.Shared.Readings.{GivesToo, ok_or-too, then_too, unless-too}
-use Rattle.table_lines.specs.Variables.{Variables, are_below, definition_in, defines_variable, each, member_states, no_variables, set_of, states_or_fault, variables_after}
+use Rattle.table_lines.specs.Variables.{Variables, definition_in, defines_variable, each, no_variables, set_of, variables_after}
 
 each-too : {A B : Type 0} (f g : A → Result B RuleFault) → ((x : A) → GivesToo (f x) (g x)) → (xs : List A) → GivesToo (each f xs) (each g xs)
 each-too f g both [] = λ ys h. h
@@ -24,9 +23,7 @@ describe-too : (d : Described) (m n : ℕ) (x : Descriptor) (value : List ℕ) �
 describe-too d m n x value e h = grind arith
 
 set_of-too : (states : ℕ) (variables : Variables) (m n : ℕ) (members : List (List ℕ)) → GivesToo (set_of states variables m members) (set_of states variables n members)
-set_of-too states variables m n members =
-    then_too _ _ _ _ (each-too (states_or_fault variables m) (states_or_fault variables n) (λ member. ok_or-too (member_states variables member) _ _) members) (λ sets.
-    unless-too (are_below states sets) _ _ _ _ (λ set k. k))
+set_of-too states variables m n members = grind (arith, then_too, each-too, ok_or-too, unless-too)
 
 variables_after-too : (head : Head) (variables : Variables) (m n : ℕ) (text : List ℕ)
     → GivesToo (variables_after head variables (record { number = m; text = text })) (variables_after head variables (record { number = n; text = text }))
@@ -36,11 +33,7 @@ variables_after-too head variables m n text =
 
 transition_of-too : (head : Head) (variables : Variables) (m n : ℕ) (text : List ℕ)
     → GivesToo (transition_of head variables (record { number = m; text = text })) (transition_of head variables (record { number = n; text = text }))
-transition_of-too head variables m n text =
-    unless-too (length (fields head.states text) == length (places_of head.neighborhood) + 2) _ _ _ _
-    (then_too (each (entry_of head.states variables m) (fields head.states text)) (each (entry_of head.states variables n) (fields head.states text)) _ _
-    (each-too (entry_of head.states variables m) (entry_of head.states variables n) (λ field e h. grind arith) (fields head.states text))
-    (λ entries t h. grind arith))
+transition_of-too head variables m n text = grind (arith, nat_tests, unless-too, then_too, each-too)
 
 abbrev texts : List NumberedLine → List (List ℕ)
 texts lines = map (λ line. line.text) lines
@@ -71,9 +64,7 @@ after found = transitions_of found.0 no_variables found.1 >>= λ ts. Ok (headed 
 -- other lines behind the same head say it too
 after-too : (r : Result Head RuleFault) (lines others : List NumberedLine) → texts lines ≡ texts others
     → GivesToo ((r >>= λ head. Ok (head, lines)) >>= after) ((r >>= λ head. Ok (head, others)) >>= after)
-after-too (Err e) lines others same = λ t h. absurd cc
-after-too (Ok head) lines others same =
-    then_too (transitions_of head no_variables lines) (transitions_of head no_variables others) _ _ (transitions_of-too head lines others no_variables same) (λ ts t k. k)
+after-too r lines others same = grind (arith, then_too, transitions_of-too)
 
 head_from-too : (lines others : List NumberedLine) (d : Described) → texts lines ≡ texts others → GivesToo (head_from d lines >>= after) (head_from d others >>= after)
 head_from-too [] [] d same = λ table h. h

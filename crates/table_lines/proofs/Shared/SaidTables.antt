@@ -1,5 +1,5 @@
 -- The table that lines say: it has two states or more and 256 at most, and its transitions are of the sets that its variables are.
-use Rattle.std.proofs.Common.{◌≡◌, ◌∙◌, sym, ap, refl, ℕ, ◌+◌, ◌-◌, ◌<◌, ◌≤◌, ◌==◌, ◌||◌, ◌&&◌, Bool, true, false, List, [], ◌∷◌, ◌++◌, length, take, drop, Option, Some, None, Result, Ok, Err, is_some, if◌then◌else◌, position, length-append, append_assoc, arith}
+use Rattle.std.proofs.Common.{◌≡◌, ◌∙◌, ap, refl, ℕ, ◌+◌, ◌-◌, ◌<◌, ◌≤◌, ◌==◌, ◌||◌, ◌&&◌, Bool, true, false, List, [], ◌∷◌, ◌++◌, length, take, drop, Option, Some, None, Result, Ok, Err, is_some, if◌then◌else◌, position, length-append, append_assoc, arith}
 use Rattle.std.specs.Prelude.{option_and_then}
 use Rattle.std.specs.Option.{ok_or}
 use Rattle.std.specs.List.{All, AllByRecursion, list_all, list_any}
@@ -53,17 +53,11 @@ all-read P f (x ∷ xs) ys one h = grind (arith, one x, all-read P f xs)
 
 -- what is of some sets is of them and more
 entry-more : (n : ℕ) (sets more : List (List ℕ)) (e : Entry) → IsEntryOf n sets e → IsEntryOf n (sets ++ more) e
-entry-more n sets more (State s) is = is
-entry-more n sets more (OneOf v) is = (omega (arith, is.0, length-append sets more), is.1 ∙ sym (get_or-append sets more [] v.number is.0))
+entry-more n sets more e is = grind (arith, length-append, get_or-append)
 
 transition-more : (n : ℕ) (neighborhood : Neighborhood) (sets more : List (List ℕ)) (t : Transition) → IsTransitionOf n neighborhood sets t
     → IsTransitionOf n neighborhood (sets ++ more) t
-transition-more n neighborhood sets more t is = record {
-  inputs = all_so (IsEntryOf n sets) (IsEntryOf n (sets ++ more)) t.inputs (entry-more n sets more) is.inputs;
-  result = entry-more n sets more t.result is.result;
-  full = is.full;
-  bound = is.bound;
-}
+transition-more n neighborhood sets more t is = grind (arith, all_so, entry-more)
 
 -- the variables so far are these sets, in the order of their definitions, and each has a state at least
 record AreDefined (n : ℕ) (sets : List (List ℕ)) (variables : Variables) : Type 0 where

@@ -1,5 +1,5 @@
 -- Tables that are written read back.
-use Rattle.std.proofs.Common.{◌≡◌, ◌∙◌, sym, ap, ap₂, refl, subst, ℕ, suc, ◌+◌, ◌-◌, ◌<◌, ◌≤◌, ◌^◌, ◌==◌, ◌&&◌, ◌||◌, true, false, not, List, [], ◌∷◌, ◌++◌, length, map, take, drop, Option, Some, None, Ok, inl, inr, nat_lt, decimal, position, arith, append-nil, append_assoc, length-append}
+use Rattle.std.proofs.Common.{◌≡◌, ◌∙◌, sym, ap, ap₂, refl, subst, ℕ, suc, ◌+◌, ◌-◌, ◌<◌, ◌≤◌, ◌^◌, ◌==◌, ◌&&◌, ◌||◌, true, false, List, [], ◌∷◌, ◌++◌, length, map, take, drop, Option, Some, None, Ok, inl, inr, nat_lt, decimal, position, arith, append-nil, append_assoc, length-append}
 use Rattle.std.specs.Prelude.{codes, nat_eq, option_and_then}
 use Rattle.std.specs.List.{AllByRecursion, join_with_byte, list_any}
 use Rattle.std.specs.Option.{option_map}
@@ -98,8 +98,7 @@ digit-variable : (d : ℕ) → IsDigit d → is_variable_byte d ≡ true
 digit-variable d h = let low : 48 ≤ d = h.0 in let high : d ≤ 57 = h.1 in grind (arith, nat_tests)
 
 name-is : (number : ℕ) → IsWide number → is_variable_name (variable_name number) ≡ true
-name-is number wide =
-    ap₂ (λ v w. not v && w && true) (differs (length (variable_name number)) 0 (λ e. omega arith)) (all-tested IsDigit is_variable_byte digit-variable (decimal number) (decimal-bytes number wide))
+name-is number wide = grind (arith, nat_tests, differs, all-tested, digit-variable, decimal-bytes)
 
 name-visible : (number : ℕ) → IsWide number → AllByRecursion IsVisible (variable_name number)
 name-visible number wide = ((omega arith, omega arith), decimal-each IsVisible digit-visible number wide)
@@ -161,12 +160,7 @@ line-undescribed line h = ap (option_and_then described_by) (named_value-none 58
 
 definition-undescribed : (n number : ℕ) (set : List ℕ) → n ≤ 256 → IsWide number → IsSet n set → descriptor_of (definition_line number set) ≡ None
 definition-undescribed n number set few wide is =
-    let P : ℕ → Type 0 = λ b. (b == 58) ≡ false in
-    let low = set-wide n set few is.below in
-    line-undescribed (definition_line number set)
-    (all_append P (codes "var " ++ variable_name number) (set_text set)
-    (refl, (refl, (refl, (refl, (refl, decimal-each P (digit-apart 58 refl) number wide)))))
-    (set_text-each P (refl, (refl, (refl, (refl, tt)))) (digit-apart 58 refl) set low))
+    grind (arith, nat_tests, set-wide, line-undescribed, all_append, decimal-each, digit-apart, set_text-each)
 
 -- the entries of a transition, its result last
 abbrev entries_of : Transition → List Entry
@@ -178,9 +172,7 @@ module _ (head : Head) (sets : List (List ℕ)) (low : head.states ≤ 256) (few
     entries-are = all_append (IsEntryOf head.states sets) t.inputs (t.result ∷ []) is.inputs (is.result, tt)
 
     entries-many : length (map entry_text (entries_of t)) ≡ length (places_of head.neighborhood) + 2
-    entries-many =
-        let full : length t.inputs ≡ length (places_of head.neighborhood) + 1 = eqb-true (length t.inputs) (length (places_of head.neighborhood) + 1) is.full in
-        omega (arith, full, length-append t.inputs (t.result ∷ []), length-map (entries_of t) entry_text)
+    entries-many = grind (arith, eqb-true, length-append, length-map)
 
     line-fields : (states : ℕ) → fields states (transition_line t) ≡ map entry_text (entries_of t)
     line-fields states =
@@ -216,8 +208,7 @@ module _ (head : Head) (sets : List (List ℕ)) (low : head.states ≤ 256) (few
       → transitions_of head variables (numbered_from number (map transition_line ts)) ≡ Ok ts
   transitions-read variables number [] named h = refl
   transitions-read variables number (t ∷ ts) named h =
-      let plain = line-plain t h.0 in
-      rw (plain.0, plain.1, transition-read t h.0 variables number named, transitions-read variables (number + 1) ts named h.1)
+      grind (arith, line-plain, transition-read, transitions-read variables (number + 1) ts named h.1)
 
   -- so do they behind the definitions of those sets that are not yet done
   definitions-read : (ts : List Transition) → AllByRecursion (IsTransitionOf head.states head.neighborhood sets) ts → (variables : Variables) (done left : List (List ℕ)) (number : ℕ) → done ++ left ≡ sets
@@ -258,8 +249,7 @@ head-read : (head : Head) (number : ℕ) (states place name value : List ℕ) (l
     → descriptor_of name ≡ Some (descriptor.Symmetries, name_of_symmetry head.symmetry) → symmetry_named head.neighborhood (name_of_symmetry head.symmetry) ≡ Some head.symmetry
     → transitions_of head no_variables lines ≡ Ok ts
     → head_from undescribed (record { number = number; text = states } ∷ record { number = number + 1; text = place } ∷ record { number = number + 1 + 1; text = name } ∷ lines) ≡ Ok (head, lines)
-head-read head number states place name value lines ts first within second third has_symmetry read =
-    rw (first, within, second, neighborhood-read head.neighborhood, third, has_symmetry) (head-end _ head lines ts (rw has_symmetry) read)
+head-read head number states place name value lines ts first within second third has_symmetry read = grind (arith, neighborhood-read, head-end)
 
 -- what is written says the table
 pub written-read : WrittenTablesAreRead
