@@ -101,7 +101,14 @@ drawn-tokens origin row column from (c ∷ cs) y x h =
 -- so many cells are counted as are drawn
 pub live_count-drawn : (origin : Origin) (strips : List Strip) → live_count strips ≡ length (flat_map (cells_of origin) strips)
 live_count-drawn origin [] = refl
-live_count-drawn origin (strip ∷ strips) = omega (arith, sum_by-cons (λ (s : Strip). s.count) strip strips, length-append (cells_of origin strip) (flat_map (cells_of origin) strips), length-map-range_with_len (cell_at origin strip) 0 strip.count, live_count-drawn origin strips)
+live_count-drawn origin (strip ∷ strips) =
+    omega (
+      arith,
+      sum_by-cons (λ (s : Strip). s.count) strip strips,
+      length-append (cells_of origin strip) (flat_map (cells_of origin) strips),
+      length-map-range_with_len (cell_at origin strip) 0 strip.count,
+      live_count-drawn origin strips,
+    )
 
 all_parts : {X : Type 0} (P : X → Type 0) (xs ys : List X) → AllByRecursion P (xs ++ ys) → AllByRecursion P xs × AllByRecursion P ys
 all_parts P [] ys h = (tt, h)
