@@ -1,9 +1,8 @@
 -- What the tests of edits say.
-use Rattle.std.proofs.Common.{◌≡◌, ℕ, zero, suc, ◌+◌, ◌<◌, ◌^◌, true, false, nat_lt, List, [], ◌∷◌, refl, sym, subst, arith, ℤ, pos, neg_ℤ, ◌≤ℤ◌, ◌<ℤ◌, ◌+ℤ◌, ◌-ℤ◌, ◌&&◌, Bool, ap, ◌∙◌, map}
+use Rattle.std.proofs.Common.{◌≡◌, ℕ, zero, suc, ◌+◌, ◌<◌, ◌^◌, true, nat_lt, List, [], ◌∷◌, sym, subst, arith, ℤ, pos, neg_ℤ, ◌≤ℤ◌, ◌<ℤ◌, ◌+ℤ◌, ◌-ℤ◌, ◌&&◌, Bool, ap, ◌∙◌, map}
 use Rattle.std.specs.Prelude.{int_le, int_lt}
 use Rattle.std.specs.List.{AllByRecursion, list_all}
 use Rattle.std.proofs.lemmas.Int.{ints}
-use Rattle.std.proofs.lemmas.Bool.{and_parts}
 use Rattle.std.proofs.lemmas.Bool.Decides.{nat_tests}
 use Rattle.worlds.specs.World.{World, Place, cell, blank, entries-blank}
 use Rattle.worlds.specs.Live.{live, live-states, live-entries, as_live, cell-state_at, by_place}
@@ -16,23 +15,8 @@ use Rattle.schedule.specs.Sound.{AreNamed, SetBelow}
 use Rattle.basics.proofs.Shared.Lists.{all_so}
 use Rattle.schedule.proofs.Each.{each_passes, all_pass}
 
-in_range : (z : ℤ) → is_named z ≡ true → (neg_ℤ (pos (2 ^ 60)) ≤ℤ z) × (z <ℤ pos (2 ^ 60))
-in_range z h = let parts = and_parts (int_le (neg_ℤ (pos (2 ^ 60))) z) (int_lt z (pos (2 ^ 60))) h in (
-  (let k = parts.0 in grind (arith, ints)),
-  (let k = parts.1 in grind (arith, ints)),
-)
-
 place_inside : (x y : ℤ) → (is_named x && is_named y) ≡ true → IsInside (2 ^ 60) x y
-place_inside x y h =
-    let parts = and_parts (is_named x) (is_named y) h in
-    let column = in_range x parts.0 in
-    let row = in_range y parts.1 in
-    record {
-      left = (let k = column.0 in omega (arith, ints));
-      right = (let k = column.1 in omega (arith, ints));
-      top = (let k = row.0 in omega (arith, ints));
-      bottom = (let k = row.1 in omega (arith, ints));
-    }
+place_inside x y h = grind (arith, ints)
 
 pub AreNamed-stay : (cells : List CellSet) → stay_in_range cells ≡ true → AreNamed cells
 AreNamed-stay cells h = each_passes may_be_named _ cells (λ c k. place_inside c.x c.y k) h
@@ -52,28 +36,23 @@ AllBelow-lies n w some h x y =
     (by_place (live w) (λ _ _ s. s < n) (each_passes (λ (e : Place × ℕ). nat_lt e.1 n) _ (live w)
     (λ e k. grind (arith, nat_tests)) h) x y (subst (λ s. 0 < s) (cell-state_at w x y) alive)))
 
+same_tests : (s t : Bool) → (s ≡ true → t ≡ true) → (t ≡ true → s ≡ true) → s ≡ t
+same_tests s t f g = grind (arith, f, g)
+
 lies_from : (n g : ℕ) (w : World) (es : List (Place × ℕ)) → g < n → AllBelow (g + 1) w
     → AllByRecursion (λ (e : Place × ℕ). (cell w e.0.1 e.0.0 ≡ e.1) × (0 < e.1)) es
     → AllByRecursion (λ (e : Place × ℕ). e.1 < n) es
 lies_from n g w [] h above all = tt
-lies_from n g w (e ∷ es) h above all = (
-  (let k = above e.0.1 e.0.0 in let i = all.0.0 in omega (arith, k, i)),
-  lies_from n g w es h above all.1,
-)
+lies_from n g w (e ∷ es) h above all =
+    let most = above e.0.1 e.0.0 in grind (arith, most, lies_from n g w es h above all.1)
 
 -- by the greatest state
 pub lies_below_is : (w : World) (g n : ℕ) → IsGreatest w g → 0 < n → nat_lt g n ≡ lies_below n w
 lies_below_is w g n most some =
-    elim (nat_lt g n) as (λ b. nat_lt g n ≡ b → b ≡ lies_below n w) [
-      | true ↦ λ e. sym (all_pass (λ (e : Place × ℕ). nat_lt e.1 n) (λ e. e.1 < n) (live w)
-          (λ e k. grind (arith, nat_tests)) (lies_from n g w (live w) (grind (arith, nat_tests)) most.above
-          (live-states w)))
-      | false ↦ λ e.
-          elim (lies_below n w) as (λ b. lies_below n w ≡ b → false ≡ b) [
-            | true ↦ λ k. let l = most.least n (AllBelow-lies n w some k) in absurd (grind (arith, nat_tests))
-            | false ↦ λ k. refl
-          ] refl
-    ] refl
+    let low = λ (e : g < n). all_pass (λ (d : Place × ℕ). nat_lt d.1 n) (λ d. d.1 < n) (live w)
+    (λ d k. grind (arith, nat_tests)) (lies_from n g w (live w) e most.above (live-states w)) in
+    let least = λ (k : lies_below n w ≡ true). most.least n (AllBelow-lies n w some k) in
+    same_tests (nat_lt g n) (lies_below n w) (λ e. low (grind (arith, nat_tests))) (λ k. let l = least k in grind (arith, nat_tests))
 
 -- the places of a world's live cells, by their list
 pub HasMargin-lies : (w : World) → lies_near w ≡ true → HasMargin (2 ^ 60) w
@@ -83,64 +62,34 @@ HasMargin-lies w h x y alive =
     (each_passes (λ (e : Place × ℕ). is_named e.0.1 && is_named e.0.0) _ (live w)
     (λ e k. place_inside e.0.1 e.0.0 k) h) x y (subst (λ s. 0 < s) is alive)
 
-both : (a b : Bool) → a ≡ true → b ≡ true → (a && b) ≡ true
-both a b h k = ap (λ t. t && b) h ∙ k
-
-passes_le : (y z : ℤ) → y ≤ℤ z → int_le y z ≡ true
-passes_le y z h = grind (arith, ints)
-
-passes_lt : (y z : ℤ) → y <ℤ z → int_lt y z ≡ true
-passes_lt y z h = grind (arith, ints)
-
-span_near : (low z high : ℤ) → int_le (neg_ℤ (pos (2 ^ 60))) low ≡ true → int_lt high (pos (2 ^ 60)) ≡ true → low ≤ℤ z
-    → z ≤ℤ high → is_named z ≡ true
-span_near low z high h k l m = both (int_le (neg_ℤ (pos (2 ^ 60))) z) (int_lt z (pos (2 ^ 60))) (grind (arith, ints))
-    (grind (arith, ints))
-
 -- a place in such a box
 in_box_near : (b : Bounds) (x y : ℤ) → box_near b ≡ true → IsInBox b x y → (is_named x && is_named y) ≡ true
-in_box_near b x y h inside =
-    let parts = and_parts (int_le (neg_ℤ (pos (2 ^ 60))) b.left && int_lt b.right (pos (2 ^ 60)))
-    (int_le (neg_ℤ (pos (2 ^ 60))) b.top && int_lt b.bottom (pos (2 ^ 60))) h in
-    let columns = and_parts (int_le (neg_ℤ (pos (2 ^ 60))) b.left) (int_lt b.right (pos (2 ^ 60))) parts.0 in
-    let rows = and_parts (int_le (neg_ℤ (pos (2 ^ 60))) b.top) (int_lt b.bottom (pos (2 ^ 60))) parts.1 in
-    both (is_named x) (is_named y) (span_near b.left x b.right columns.0 columns.1 inside.left inside.right)
-    (span_near b.top y b.bottom rows.0 rows.1 inside.top inside.bottom)
+in_box_near b x y h inside = grind (arith, ints)
 
 least_near : (z : ℤ) → neg_ℤ (pos (2 ^ 61)) ≤ℤ (z -ℤ pos (2 ^ 60)) → int_le (neg_ℤ (pos (2 ^ 60))) z ≡ true
-least_near z h = let k : neg_ℤ (pos (2 ^ 60)) ≤ℤ z = omega (arith, ints, h) in passes_le (neg_ℤ (pos (2 ^ 60))) z k
+least_near z h = grind (arith, ints)
 
 most_near : (z : ℤ) → (z +ℤ pos (2 ^ 60)) <ℤ pos (2 ^ 61) → int_lt z (pos (2 ^ 60)) ≡ true
-most_near z h = let k : z <ℤ pos (2 ^ 60) = omega (arith, ints, h) in passes_lt z (pos (2 ^ 60)) k
+most_near z h = grind (arith, ints)
 
 box_near-live : (w : World) (b : Bounds) → IsBoundingBox b w → HasMargin (2 ^ 60) w → box_near b ≡ true
 box_near-live w b box inside =
-    let left = (inside b.left box.touched_left.0 box.touched_left.1).left in
-    let right = (inside b.right box.touched_right.0 box.touched_right.1).right in
-    let top = (inside box.touched_top.0 b.top box.touched_top.1).top in
-    let bottom = (inside box.touched_bottom.0 b.bottom box.touched_bottom.1).bottom in
-    both (int_le (neg_ℤ (pos (2 ^ 60))) b.left && int_lt b.right (pos (2 ^ 60)))
-    (int_le (neg_ℤ (pos (2 ^ 60))) b.top && int_lt b.bottom (pos (2 ^ 60)))
-    (both (int_le (neg_ℤ (pos (2 ^ 60))) b.left) (int_lt b.right (pos (2 ^ 60))) (least_near b.left left)
-    (most_near b.right right))
-    (both (int_le (neg_ℤ (pos (2 ^ 60))) b.top) (int_lt b.bottom (pos (2 ^ 60))) (least_near b.top top)
-    (most_near b.bottom bottom))
+    let left = least_near b.left (inside b.left box.touched_left.0 box.touched_left.1).left in
+    let right = most_near b.right (inside b.right box.touched_right.0 box.touched_right.1).right in
+    let top = least_near b.top (inside box.touched_top.0 b.top box.touched_top.1).top in
+    let bottom = most_near b.bottom (inside box.touched_bottom.0 b.bottom box.touched_bottom.1).bottom in
+    grind (arith, left, right, top, bottom)
 
 -- by the bounding box
 pub lies_near_is : (w : World) (b : Bounds) → IsBoundingBox b w → box_near b ≡ lies_near w
 lies_near_is w b box =
-    elim (box_near b) as (λ t. box_near b ≡ t → t ≡ lies_near w) [
-      | true ↦ λ e.
-          sym (all_pass (λ (d : Place × ℕ). is_named d.0.1 && is_named d.0.0) (λ d. IsInBox b d.0.1 d.0.0) (live w)
-          (λ d k. in_box_near b d.0.1 d.0.0 e k)
-          (all_so (λ (d : Place × ℕ). (cell w d.0.1 d.0.0 ≡ d.1) × (0 < d.1)) (λ d. IsInBox b d.0.1 d.0.0) (live w)
-          (λ d k. box.holds d.0.1 d.0.0 (subst (λ s. 0 < s) (sym k.0) k.1)) (live-states w)))
-      | false ↦ λ e.
-          elim (lies_near w) as (λ t. lies_near w ≡ t → false ≡ t) [
-            | true ↦ λ k. sym e ∙ box_near-live w b box (HasMargin-lies w k)
-            | false ↦ λ k. refl
-          ] refl
-    ] refl
+    let near = λ (e : box_near b ≡ true).
+    all_pass (λ (d : Place × ℕ). is_named d.0.1 && is_named d.0.0) (λ d. IsInBox b d.0.1 d.0.0) (live w)
+    (λ d k. in_box_near b d.0.1 d.0.0 e k)
+    (all_so (λ (d : Place × ℕ). (cell w d.0.1 d.0.0 ≡ d.1) × (0 < d.1)) (λ d. IsInBox b d.0.1 d.0.0) (live w)
+    (λ d k. box.holds d.0.1 d.0.0 (subst (λ s. 0 < s) (sym k.0) k.1)) (live-states w)) in
+    let inside = λ (k : lies_near w ≡ true). box_near-live w b box (HasMargin-lies w k) in
+    same_tests (box_near b) (lies_near w) near inside
 
 -- where no cell is live
 pub lies_near-blank : (w : World) → w ≡ blank → lies_near w ≡ true

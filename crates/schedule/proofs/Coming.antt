@@ -1,5 +1,5 @@
 -- Acting generations that are still to come, one after another.
-use Rattle.std.proofs.Common.{◌≡◌, ℕ, zero, suc, ◌+◌, ◌<◌, ◌≤◌, nat_le, true, false, ◌∷◌, filter, refl, sym, ap, ◌∙◌, arith, None, Some}
+use Rattle.std.proofs.Common.{◌≡◌, ℕ, zero, suc, ◌+◌, ◌<◌, ◌≤◌, nat_le, ◌∷◌, filter, sym, ap, ◌∙◌, arith, None, Some}
 use Rattle.std.specs.Prelude.{if◌then◌else◌, min}
 use Rattle.std.proofs.lemmas.Bool.Decides.{nat_tests}
 use Rattle.schedule.specs.declared.acts.Acts.TheVariants.{Once, Every}
@@ -9,12 +9,7 @@ use Rattle.schedule.proofs.Shared.Acts.{between, between-none, between-alone, be
 
 from-first : (first every most : ℕ)
     → from_next every most (if nat_le first most then Some first else None) ≡ between first every most
-from-first first every most =
-    elim (nat_le first most) as (λ t. nat_le first most ≡ t
-    → from_next every most (if t then Some first else None) ≡ between first every most) [
-      | true ↦ λ e. refl
-      | false ↦ λ e. (let high : most < first = grind (arith, nat_tests) in sym (between-none first every most high))
-    ] refl
+from-first first every most = let none = between-none first every most in grind (arith, nat_tests, none)
 
 -- those of one that acts once
 pub from-once : (generation far : ℕ)

@@ -14,3 +14,7 @@ pub all_pass : {X : Type 0} (p : X → Bool) (P : X → Type 0) (xs : List X) �
     → AllByRecursion P xs → list_all p xs ≡ true
 all_pass p P [] f h = refl
 all_pass p P (x ∷ xs) f h = ap (λ b. b && list_all p xs) (f x h.0) ∙ all_pass p P xs f h.1
+
+pub all_are : {X : Type 0} (P : X → Type 0) (xs : List X) → ((x : X) → P x) → AllByRecursion P xs
+all_are P [] h = tt
+all_are P (x ∷ xs) h = (h x, all_are P xs h)

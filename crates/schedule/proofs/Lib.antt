@@ -4,6 +4,5 @@ pub mod Below
 pub mod Unrefused
 pub mod Sounds
 pub mod SoundLists
-pub mod Passing
 pub mod Coming
 pub mod Tallies

@@ -1,6 +1,6 @@
 -- Edits of interventions and bookmarks that aren't refused keep the limits of documents.
-use Rattle.std.proofs.Common.{◌≡◌, ℕ, ◌+◌, ◌<◌, ◌≤◌, ◌^◌, Bool, true, false, ◌&&◌, not, List, [], ◌∷◌, ◌++◌, length, map, filter, refl, sym, ap, ◌∙◌, arith, None, length-append}
-use Rattle.std.specs.Prelude.{if◌then◌else◌, ◌==◌, is_none}
+use Rattle.std.proofs.Common.{◌≡◌, ℕ, ◌+◌, ◌<◌, ◌≤◌, ◌^◌, Bool, false, ◌&&◌, not, List, [], ◌∷◌, ◌++◌, length, map, filter, refl, arith, None, length-append}
+use Rattle.std.specs.Prelude.{if◌then◌else◌, ◌==◌}
 use Rattle.std.specs.Option.{unwrap_or}
 use Rattle.std.specs.List.{AllByRecursion}
 use Rattle.worlds.specs.declared.cell.CellSet.{CellSet}
@@ -21,9 +21,11 @@ use Rattle.schedule.specs.Change.{first_refusal, for_intervention, for_changed_i
 use Rattle.basics.proofs.Shared.Lists.{all_append}
 use Rattle.schedule.proofs.Shared.Ids.{rise_push, given_push, each_map, rise_map, each_filter, rise_filter, length-filter_le, placed_at}
 use Rattle.std.proofs.lemmas.List.{length-map}
-use Rattle.schedule.proofs.Shared.Repeats.{sum-less, sum-filter, sum-changed, marks_to-more, reach-unmarked}
+use Rattle.schedule.proofs.Shared.Repeats.{sum-less, sum-filter, marks_to-more, reach-unmarked}
+use Rattle.std.proofs.lemmas.List.Folds.{fold-map}
 use Rattle.std.proofs.lemmas.List.Sums.{sum_by_push}
-use Rattle.schedule.proofs.Unrefused.{passed, near, placed, few_enough, fit_marks, fit_insertion, fit_change, fit_bookmark}
+use Rattle.schedule.proofs.Each.{all_are}
+use Rattle.schedule.proofs.Unrefused.{near, placed, few_enough, fit_insertion, fit_change, fit_bookmark}
 
 -- a list of at most 4,096 elements, by rising ids up to `last`, of each of which P holds
 record IsListed {X : Type 0} (id : X → ℕ) (P : X → Type 0) (xs : List X) (last : ℕ) : Type 0 where
@@ -35,45 +37,36 @@ record IsListed {X : Type 0} (id : X → ℕ) (P : X → Type 0) (xs : List X) (
 -- another element at its end, some elements changed, and some left out
 with_one : {X : Type 0} (id : X → ℕ) (P : X → Type 0) (xs : List X) (last : ℕ) (x : X) → IsListed id P xs last
     → id x ≡ last + 1 → P x → length xs < 4096 → IsListed id P (xs ++ x ∷ []) (last + 1)
-with_one id P xs last x listed next here few = record {
-  each = all_append P xs (x ∷ []) listed.each (here, tt);
-  rise = rise_push id xs x last listed.rise listed.given (omega (arith, next));
-  given = given_push id xs x last listed.given next;
-  few = (let long = length-append xs (x ∷ []) in omega (arith, long, few));
-}
+with_one id P xs last x listed next here few = grind (
+  arith,
+  all_append P xs (x ∷ []),
+  rise_push id xs x last,
+  given_push id xs x last,
+  length-append xs (x ∷ []),
+)
 
 with_changed : {X : Type 0} (id : X → ℕ) (P : X → Type 0) (xs : List X) (last : ℕ) (c : X → Bool) (f : X → X)
     → IsListed id P xs last → ((x : X) → id (f x) ≡ id x) → ((x : X) → P x → P (f x))
     → IsListed id P (map (λ x. if c x then f x else x) xs) last
-with_changed id P xs last c f listed same stays = record {
-  each = each_map P c f xs stays listed.each;
-  rise = rise_map id c f xs same listed.rise;
-  given = each_map (λ x. id x ≤ last) c f xs (λ x k. let e = same x in omega (arith, e, k)) listed.given;
-  few = (let long = length-map xs (λ x. if c x then f x else x) in let few = listed.few in omega (arith, long, few));
-}
+with_changed id P xs last c f listed same stays =
+    let long = length-map xs (λ x. if c x then f x else x) in
+    let given = each_map (λ x. id x ≤ last) c f xs (λ x k. let e = same x in omega (arith, e, k)) in
+    grind (arith, each_map P c f xs stays, rise_map id c f xs same, given, long)
 
 with_fewer : {X : Type 0} (id : X → ℕ) (P : X → Type 0) (xs : List X) (last : ℕ) (c : X → Bool)
     → IsListed id P xs last → IsListed id P (filter c xs) last
-with_fewer id P xs last c listed = record {
-  each = each_filter P c xs listed.each;
-  rise = rise_filter id c xs listed.rise;
-  given = each_filter (λ x. id x ≤ last) c xs listed.given;
-  few = (let less = length-filter_le c xs in let few = listed.few in omega (arith, less, few));
-}
-
-all_are : {X : Type 0} (P : X → Type 0) (xs : List X) → ((x : X) → P x) → AllByRecursion P xs
-all_are P [] h = tt
-all_are P (x ∷ xs) h = (h x, all_are P xs h)
+with_fewer id P xs last c listed = grind (
+  arith,
+  each_filter P c xs,
+  rise_filter id c xs,
+  each_filter (λ x. id x ≤ last) c xs,
+  length-filter_le c xs,
+)
 
 -- the interventions of a document, and others that keep the limits
 listed_interventions : (p : Plan) → IsSound p
     → IsListed intervention_id (IsAllowed (states_of p.rule)) p.interventions p.last_intervention
-listed_interventions p sound = record {
-  each = sound.interventions_allowed;
-  rise = sound.interventions_rise;
-  given = sound.interventions_given;
-  few = sound.few_interventions;
-}
+listed_interventions p sound = grind arith
 
 IsSound-interventions : (p : Plan) (is : List Intervention) (last : ℕ) → IsSound p
     → IsListed intervention_id (IsAllowed (states_of p.rule)) is last → last ≤ p.revision + 1
@@ -86,32 +79,20 @@ few_inserted : (p : Plan) (b : ℕ) (acts : Acts) (cells : List CellSet) → rep
     → (repeats acts && has_too_many_marks (with_intervention p b acts cells).plan) ≡ false
     → repeat_marks (with_intervention p b acts cells).plan ≤ 8192
 few_inserted p b (Once generation) cells few free =
-    let sum = sum_by_push (λ (j : Intervention). marks_to (reach p j.branch) j.acts) p.interventions
-    (next_intervention p b (Once generation) cells) in
-    omega (arith, sum, few)
-few_inserted p b (Every first every last) cells few free =
-    few_enough (with_intervention p b (Every first every last) cells).plan free
+    grind (arith, sum_by_push (λ (j : Intervention). marks_to (reach p j.branch) j.acts) p.interventions)
+few_inserted p b (Every first every last) cells few free = grind (arith, few_enough)
 
 pub IsSound-intervention : (p : Plan) (b : ℕ) (acts : Acts) (cells : List CellSet) → IsSound p
     → first_refusal (for_intervention p b acts cells) ≡ None → IsSound (with_intervention p b acts cells).plan
 IsSound-intervention p b acts cells sound free =
     let fit = fit_insertion p b acts cells free in
     let i : Intervention = next_intervention p b acts cells in
-    let within = sound.interventions_within in
     IsSound-interventions p (p.interventions ++ i ∷ []) (p.last_intervention + 1) sound
-    (with_one intervention_id (IsAllowed (states_of p.rule)) p.interventions p.last_intervention i
-    (listed_interventions p sound) refl
-    (record { timely = fit.timely; named = fit.set.named; below = fit.set.below }) fit.few) (omega (arith, within))
+    (with_one intervention_id _ p.interventions p.last_intervention i (listed_interventions p sound) refl
+    (record { timely = fit.timely; named = fit.set.named; below = fit.set.below }) fit.few)
+    (let within = sound.interventions_within in omega (arith, within))
     (few_inserted p b acts cells sound.few_marks fit.marks.few)
-    (all_append (λ (j : Intervention). IsPlaced p.branches j.branch (first_of j.acts)) p.interventions
-    (i ∷ []) sound.branches_sound.interventions_placed (fit.placed, tt))
-
--- an intervention that acts once has no marks of its own
-no_more : (p : Plan) (generation : ℕ) (cells : List CellSet) (i : Intervention) (b : Bool)
-    → marks_to (reach p (if b then acting (Once generation) cells i else i).branch)
-    (if b then acting (Once generation) cells i else i).acts ≤ marks_to (reach p i.branch) i.acts
-no_more p generation cells i true = omega arith
-no_more p generation cells i false = omega arith
+    (all_append _ p.interventions (i ∷ []) sound.branches_sound.interventions_placed (fit.placed, tt))
 
 -- another intervention in the place of one, whose marks aren't too many
 few_changed : (p : Plan) (id : ℕ) (acts : Acts) (cells : List CellSet) → repeat_marks p ≤ 8192
@@ -119,15 +100,12 @@ few_changed : (p : Plan) (id : ℕ) (acts : Acts) (cells : List CellSet) → rep
     → repeat_marks (with_changed_intervention p id acts cells).plan ≤ 8192
 few_changed p id (Once generation) cells few free =
     let f : Intervention → ℕ = λ j. marks_to (reach p j.branch) j.acts in
-    let c : Intervention → Bool = λ j. j.id == id in
-    let h = acting (Once generation) cells in
-    let sum = sum-changed f c h p.interventions in
-    let less = sum-less (λ j. f (if c j then h j else j)) f p.interventions
-    (all_are (λ (j : Intervention). f (if c j then h j else j) ≤ f j) p.interventions
-    (λ j. no_more p generation cells j (c j))) in
+    let own : Intervention → Intervention = λ j. if j.id == id then acting (Once generation) cells j else j in
+    let sum = fold-map (λ s (j : Intervention). s + f j) own 0 p.interventions in
+    let less = sum-less (λ j. f (own j)) f p.interventions
+    (all_are (λ (j : Intervention). f (own j) ≤ f j) p.interventions (λ j. grind arith)) in
     omega (arith, sum, less, few)
-few_changed p id (Every first every last) cells few free =
-    few_enough (with_changed_intervention p id (Every first every last) cells).plan free
+few_changed p id (Every first every last) cells few free = grind (arith, few_enough)
 
 pub IsSound-changed_intervention : (p : Plan) (id : ℕ) (acts : Acts) (cells : List CellSet) → IsSound p
     → first_refusal (for_changed_intervention p id acts cells) ≡ None
@@ -135,17 +113,16 @@ pub IsSound-changed_intervention : (p : Plan) (id : ℕ) (acts : Acts) (cells : 
 IsSound-changed_intervention p id acts cells sound free =
     let fit = fit_change p id acts cells free in
     let f = acting acts cells in
-    let within = sound.interventions_within in
     IsSound-interventions p (changed_at intervention_id f p.interventions id) p.last_intervention sound
-    (with_changed intervention_id (IsAllowed (states_of p.rule)) p.interventions p.last_intervention
-    (λ (i : Intervention). i.id == id) f (listed_interventions p sound) (λ i. refl)
+    (with_changed intervention_id _ p.interventions p.last_intervention (λ (i : Intervention). i.id == id) f
+    (listed_interventions p sound) (λ i. refl)
     (λ i _. record { timely = fit.timely; named = fit.set.named; below = fit.set.below }))
-    (omega (arith, within)) (few_changed p id acts cells sound.few_marks fit.marks.few)
+    (let within = sound.interventions_within in omega (arith, within))
+    (few_changed p id acts cells sound.few_marks fit.marks.few)
     (placed_at intervention_id (λ (i : Intervention). i.branch) (λ (i : Intervention). first_of i.acts)
     (IsPlaced p.branches) f p.interventions id (first_of acts) (λ i. refl)
     (λ i. refl) sound.interventions_rise sound.branches_sound.interventions_placed
-    (λ n on _ stands. placed p n (first_of acts) stands.there
-    (ap (λ o. is_before_fork p (unwrap_or o 0) (first_of acts)) (sym on) ∙ fit.late)))
+    (λ n on _ stands. placed p n (first_of acts) stands.there (rw on at fit.late)))
 
 pub IsSound-removed_intervention : (p : Plan) (id : ℕ) → IsSound p → IsSound (without_intervention p id).plan
 IsSound-removed_intervention p id sound =
@@ -154,10 +131,9 @@ IsSound-removed_intervention p id sound =
     let few = sound.few_marks in
     let less = sum-filter (λ (i : Intervention). marks_to (reach p i.branch) i.acts) c p.interventions in
     IsSound-interventions p (without intervention_id p.interventions id) p.last_intervention sound
-    (with_fewer intervention_id (IsAllowed (states_of p.rule)) p.interventions p.last_intervention c
-    (listed_interventions p sound)) (omega (arith, within)) (omega (arith, few, less))
-    (each_filter (λ (i : Intervention). IsPlaced p.branches i.branch (first_of i.acts)) c p.interventions
-    sound.branches_sound.interventions_placed)
+    (with_fewer intervention_id _ p.interventions p.last_intervention c (listed_interventions p sound))
+    (omega (arith, within)) (omega (arith, few, less))
+    (each_filter _ c p.interventions sound.branches_sound.interventions_placed)
 
 -- without a bookmark there are no more marks
 few_unmarked : (p : Plan) (id : ℕ) → repeat_marks p ≤ 8192 → repeat_marks (without_bookmark p id).plan ≤ 8192
@@ -165,20 +141,14 @@ few_unmarked p id few =
     let q : Plan = (without_bookmark p id).plan in
     let less = sum-less (λ (i : Intervention). marks_to (reach q i.branch) i.acts)
     (λ i. marks_to (reach p i.branch) i.acts) p.interventions
-    (all_are (λ (i : Intervention). marks_to (reach q i.branch) i.acts ≤ marks_to (reach p i.branch) i.acts)
-    p.interventions (λ i. marks_to-more i.acts (reach q i.branch) (reach p i.branch)
+    (all_are _ p.interventions (λ i. marks_to-more i.acts (reach q i.branch) (reach p i.branch)
     (reach-unmarked p id i.branch))) in
     omega (arith, less, few)
 
 -- the bookmarks of a document, and others that keep the limits
 listed_bookmarks : (p : Plan) → IsSound p
     → IsListed bookmark_id (λ (b : Bookmark). b.generation ≤ 2 ^ 60) p.bookmarks p.last_bookmark
-listed_bookmarks p sound = record {
-  each = sound.bookmarks_near;
-  rise = sound.bookmarks_rise;
-  given = sound.bookmarks_given;
-  few = sound.few_bookmarks;
-}
+listed_bookmarks p sound = grind arith
 
 IsSound-bookmarks : (p : Plan) (bs : List Bookmark) (last : ℕ) → IsSound p
     → IsListed bookmark_id (λ (b : Bookmark). b.generation ≤ 2 ^ 60) bs last
@@ -192,44 +162,37 @@ pub IsSound-bookmark : (p : Plan) (n generation : ℕ) (view : View) → IsSound
 IsSound-bookmark p n generation view sound free =
     let fit = fit_bookmark p n generation view free in
     let b : Bookmark = next_bookmark p n generation view in
-    let within = sound.bookmarks_within in
     IsSound-bookmarks p (p.bookmarks ++ b ∷ []) (p.last_bookmark + 1) sound
-    (with_one bookmark_id (λ (c : Bookmark). c.generation ≤ 2 ^ 60) p.bookmarks p.last_bookmark b
-    (listed_bookmarks p sound) refl fit.near fit.few)
-    (all_append (λ (c : Bookmark). IsWithin c.view) p.bookmarks (b ∷ []) sound.views_within (fit.within, tt))
-    (omega (arith, within)) (few_enough (changed_bookmarks p n generation view).plan fit.marks.few)
-    (all_append (λ (c : Bookmark). IsPlaced p.branches c.branch c.generation) p.bookmarks
-    (b ∷ []) sound.branches_sound.bookmarks_placed (fit.placed, tt))
+    (with_one bookmark_id _ p.bookmarks p.last_bookmark b (listed_bookmarks p sound) refl fit.near fit.few)
+    (all_append _ p.bookmarks (b ∷ []) sound.views_within (fit.within, tt))
+    (let within = sound.bookmarks_within in omega (arith, within))
+    (few_enough (changed_bookmarks p n generation view).plan fit.marks.few)
+    (all_append _ p.bookmarks (b ∷ []) sound.branches_sound.bookmarks_placed (fit.placed, tt))
 
 pub IsSound-moved_bookmark : (p : Plan) (id generation : ℕ) → IsSound p
     → first_refusal (for_moved_bookmark p id generation) ≡ None → IsSound (with_moved_bookmark p id generation).plan
 IsSound-moved_bookmark p id generation sound free =
     let n = bookmark_branch p.bookmarks id in
-    let there = passed (is_none n) _ _ free in
-    let far = passed (is_too_far generation) _ _ there.1 in
-    let late = passed (is_before_fork p (unwrap_or n 0) generation) _ _ far.1 in
-    let marks = fit_marks true p (with_moved_bookmark p id generation).plan late.1 in
+    let tests : (is_too_far generation ≡ false) × (is_before_fork p (unwrap_or n 0) generation ≡ false)
+    × (has_too_many_marks (with_moved_bookmark p id generation).plan ≡ false) = grind arith in
     let f = marking generation in
     let c : Bookmark → Bool = λ b. b.id == id in
-    let within = sound.bookmarks_within in
     IsSound-bookmarks p (changed_at bookmark_id f p.bookmarks id) p.last_bookmark sound
-    (with_changed bookmark_id (λ (b : Bookmark). b.generation ≤ 2 ^ 60) p.bookmarks p.last_bookmark c f
-    (listed_bookmarks p sound) (λ b. refl) (λ b _. near generation far.0))
-    (each_map (λ (b : Bookmark). IsWithin b.view) c f p.bookmarks (λ b k. k) sound.views_within)
-    (omega (arith, within)) (few_enough (with_moved_bookmark p id generation).plan marks.few)
+    (with_changed bookmark_id _ p.bookmarks p.last_bookmark c f (listed_bookmarks p sound) (λ b. refl)
+    (λ b _. near generation tests.0))
+    (each_map _ c f p.bookmarks (λ b k. k) sound.views_within)
+    (let within = sound.bookmarks_within in omega (arith, within))
+    (few_enough (with_moved_bookmark p id generation).plan tests.2)
     (placed_at bookmark_id (λ (b : Bookmark). b.branch) (λ (b : Bookmark). b.generation)
     (IsPlaced p.branches) f p.bookmarks id generation (λ b. refl)
     (λ b. refl) sound.bookmarks_rise sound.branches_sound.bookmarks_placed
-    (λ m on _ stands. placed p m generation stands.there
-    (ap (λ o. is_before_fork p (unwrap_or o 0) generation) (sym on) ∙ late.0)))
+    (λ m on _ stands. placed p m generation stands.there (rw on at tests.1)))
 
 pub IsSound-removed_bookmark : (p : Plan) (id : ℕ) → IsSound p → IsSound (without_bookmark p id).plan
 IsSound-removed_bookmark p id sound =
     let c : Bookmark → Bool = λ b. not (b.id == id) in
-    let within = sound.bookmarks_within in
     IsSound-bookmarks p (without bookmark_id p.bookmarks id) p.last_bookmark sound
-    (with_fewer bookmark_id (λ (b : Bookmark). b.generation ≤ 2 ^ 60) p.bookmarks p.last_bookmark c
-    (listed_bookmarks p sound)) (each_filter (λ (b : Bookmark). IsWithin b.view) c p.bookmarks sound.views_within)
-    (omega (arith, within)) (few_unmarked p id sound.few_marks)
-    (each_filter (λ (b : Bookmark). IsPlaced p.branches b.branch b.generation) c p.bookmarks
-    sound.branches_sound.bookmarks_placed)
+    (with_fewer bookmark_id _ p.bookmarks p.last_bookmark c (listed_bookmarks p sound))
+    (each_filter _ c p.bookmarks sound.views_within)
+    (let within = sound.bookmarks_within in omega (arith, within)) (few_unmarked p id sound.few_marks)
+    (each_filter _ c p.bookmarks sound.branches_sound.bookmarks_placed)

@@ -1,9 +1,8 @@
 -- Edits of rule, start and branches that aren't refused keep the limits of documents.
-use Rattle.std.proofs.Common.{◌≡◌, ℕ, ◌+◌, ◌<◌, ◌≤◌, ◌^◌, Bool, true, false, ◌&&◌, not, List, [], ◌∷◌, ◌++◌, length, refl, sym, subst, arith, None, length-append}
+use Rattle.std.proofs.Common.{◌≡◌, ℕ, ◌+◌, ◌<◌, ◌≤◌, ◌^◌, Bool, true, false, not, List, [], ◌∷◌, ◌++◌, refl, sym, subst, arith, None, length-append}
 use Rattle.std.specs.Prelude.{◌==◌}
 use Rattle.std.specs.List.{AllByRecursion}
 use Rattle.std.specs.Prelude.{All}
-use Rattle.std.proofs.lemmas.Bool.{and_parts, not-false}
 use Rattle.worlds.specs.World.{World, blank, cell-blank}
 use Rattle.worlds.specs.Lay.{lay}
 use Rattle.worlds.specs.Range.{HasMargin, AllBelow, CanBeLaid}
@@ -16,7 +15,7 @@ use Rattle.schedule.specs.declared.document.Bookmark.{Bookmark}
 use Rattle.schedule.specs.declared.branch.Branch.{Branch}
 use Rattle.schedule.specs.Plan.{Plan, opening}
 use Rattle.schedule.specs.Sound.{IsAllowed, IsPlaced, IsForked, AreSound, IsSound}
-use Rattle.schedule.specs.Acts.{first_of, marks_to}
+use Rattle.schedule.specs.Acts.{marks_to}
 use Rattle.schedule.specs.Repeats.{repeat_marks}
 use Rattle.schedule.specs.Ids.{branch_id, without}
 use Rattle.schedule.specs.Branches.{has_branch, reach}
@@ -49,34 +48,23 @@ IsSound-cells p cells sound free =
 pub IsSound-start : (p : Plan) (start : World) → IsSound p → first_refusal (for_start p start) ≡ None
     → 0 < states_of p.rule → IsSound (record (revised p) { start = start })
 IsSound-start p start sound free some =
-    let outside = passed (not (lies_near start)) _ _ free in
-    let high = passed (not (lies_below (states_of p.rule) start)) _ _ outside.1 in
-    IsSound-world p p.rule start sound sound.few_states
-    (AllBelow-lies (states_of p.rule) start some (not-false (lies_below (states_of p.rule) start) high.0))
-    (HasMargin-lies start (not-false (lies_near start) outside.0)) sound.interventions_allowed
+    let tests : (lies_near start ≡ true) × (lies_below (states_of p.rule) start ≡ true) = grind arith in
+    IsSound-world p p.rule start sound sound.few_states (AllBelow-lies (states_of p.rule) start some tests.1)
+    (HasMargin-lies start tests.0) sound.interventions_allowed
 
 still_allowed : (m n : ℕ) (is : List Intervention) → AllByRecursion (IsAllowed m) is
     → AllByRecursion (λ (i : Intervention). set_below n i.cells ≡ true) is → AllByRecursion (IsAllowed n) is
 still_allowed m n [] h below = tt
-still_allowed m n (i ∷ is) h below = (
-  record {
-    timely = h.0.timely;
-    named = h.0.named;
-    below = SetBelow-test n i.cells below.0;
-  },
-  still_allowed m n is h.1 below.1,
-)
+still_allowed m n (i ∷ is) h below = grind (arith, SetBelow-test n i.cells, still_allowed m n is h.1 below.1)
 
 pub IsSound-rule : (p : Plan) (rule : Rule) → IsSound p → first_refusal (for_rule p rule) ≡ None → 0 < states_of rule
     → states_of rule ≤ 256 → IsSound (record (revised p) { rule = rule })
 IsSound-rule p rule sound free some few =
     let n = states_of rule in
-    let fits = not-false (lies_below n p.start && all_set_below n p.interventions)
-    (passed (not (lies_below n p.start && all_set_below n p.interventions)) _ _ free).0 in
-    let parts = and_parts (lies_below n p.start) (all_set_below n p.interventions) fits in
-    IsSound-world p rule p.start sound few (AllBelow-lies n p.start some parts.0) sound.start_inside
+    let tests : (lies_below n p.start ≡ true) × (all_set_below n p.interventions ≡ true) = grind arith in
+    IsSound-world p rule p.start sound few (AllBelow-lies n p.start some tests.0) sound.start_inside
     (still_allowed (states_of p.rule) n p.interventions sound.interventions_allowed
-    (each_passes (λ (i : Intervention). set_below n i.cells) _ p.interventions (λ i k. k) parts.1))
+    (each_passes (λ (i : Intervention). set_below n i.cells) _ p.interventions (λ i k. k) tests.1))
 
 -- other branches that keep the limits
 IsSound-branches : (p : Plan) (bs : List Branch) (last : ℕ) → IsSound p
@@ -91,36 +79,24 @@ added : (p : Plan) (parent generation : ℕ) → AreSound p → FitBranch p pare
 added p parent generation sound fit =
     let x : Branch = next_branch p parent generation in
     let bs : List Branch = p.branches ++ x ∷ [] in
-    let few = fit.few in
-    let within = sound.within in
-    let long : length bs ≡ length p.branches + 1 = length-append p.branches (x ∷ []) in
-    let lesser : parent ≤ p.last_branch = has_branch-given p.branches p.last_branch parent sound.given
-    fit.placed.there in
-    let above : p.last_branch < x.id = omega arith in
+    let long = length-append p.branches (x ∷ []) in
+    let lesser = has_branch-given p.branches p.last_branch parent sound.given fit.placed.there in
     let stays : (b g : ℕ) → IsPlaced p.branches b g → IsPlaced bs b g =
-    λ b g k. IsPlaced-more p.branches x p.last_branch b g sound.given above k in
+    λ b g k. IsPlaced-more p.branches x p.last_branch b g sound.given (omega arith) k in
     let forked : IsForked bs x = record {
       later = omega (arith, lesser);
       placed = stays parent generation fit.placed;
       near = fit.near;
     } in record {
-      forked =
-          all_append (IsForked bs) p.branches (x ∷ [])
-          (all_so (IsForked p.branches) (IsForked bs) p.branches
-          (λ y k. record { later = k.later; placed = stays y.parent y.fork k.placed; near = k.near })
-          sound.forked)
+      forked = all_append (IsForked bs) p.branches (x ∷ []) (all_so _ _ p.branches
+          (λ y k. record { later = k.later; placed = stays y.parent y.fork k.placed; near = k.near }) sound.forked)
           (forked, tt);
-      rise = rise_push branch_id p.branches x p.last_branch sound.rise sound.given above;
+      rise = rise_push branch_id p.branches x p.last_branch sound.rise sound.given (omega arith);
       given = given_push branch_id p.branches x p.last_branch sound.given refl;
-      few = omega (arith, long, few);
-      within = omega (arith, within);
-      interventions_placed =
-          all_so (λ (i : Intervention). IsPlaced p.branches i.branch (first_of i.acts))
-          (λ (i : Intervention). IsPlaced bs i.branch (first_of i.acts)) p.interventions
-          (λ i k. stays i.branch (first_of i.acts) k) sound.interventions_placed;
-      bookmarks_placed = all_so (λ (b : Bookmark). IsPlaced p.branches b.branch b.generation)
-          (λ (b : Bookmark). IsPlaced bs b.branch b.generation) p.bookmarks
-          (λ b k. stays b.branch b.generation k) sound.bookmarks_placed;
+      few = (let few = fit.few in omega (arith, long, few));
+      within = (let within = sound.within in omega (arith, within));
+      interventions_placed = all_so _ _ p.interventions (λ i k. stays _ _ k) sound.interventions_placed;
+      bookmarks_placed = all_so _ _ p.bookmarks (λ b k. stays _ _ k) sound.bookmarks_placed;
     }
 
 pub IsSound-branch : (p : Plan) (parent generation : ℕ) → IsSound p
@@ -134,35 +110,22 @@ IsSound-branch p parent generation sound free =
 -- a branch that isn't in use, removed
 removed : (p : Plan) (n : ℕ) → AreSound p → is_in_use p n ≡ false → AreSound (without_branch p n).plan
 removed p n sound free =
-    let bs : List Branch = without branch_id p.branches n in
     let c : Branch → Bool = λ x. not (x.id == n) in
     let none = unused p n free in
-    let stays : (b g : ℕ) → (b == n) ≡ false → IsPlaced p.branches b g → IsPlaced bs b g =
+    let stays : (b g : ℕ) → (b == n) ≡ false → IsPlaced p.branches b g → IsPlaced (without branch_id p.branches n) b g =
     λ b g other k. IsPlaced-without p.branches n b g other k in
-    let few = sound.few in
-    let within = sound.within in
-    let long : length bs ≤ length p.branches = length-filter_le c p.branches in
-    record {
-      forked =
-          each_filter (IsForked bs) c p.branches
-          (all_unnamed (λ (x : Branch). x.parent) (IsForked p.branches) (IsForked bs) p.branches n
+    let long = length-filter_le c p.branches in record {
+      forked = each_filter _ c p.branches (all_unnamed (λ (x : Branch). x.parent) _ _ p.branches n
           (λ x other k. record { later = k.later; placed = stays x.parent x.fork other k.placed; near = k.near })
           none.children sound.forked);
       rise = rise_filter branch_id c p.branches sound.rise;
-      given = each_filter (λ (x : Branch). x.id ≤ p.last_branch) c p.branches sound.given;
-      few = omega (arith, long, few);
-      within = omega (arith, within);
-      interventions_placed =
-          all_unnamed (λ (i : Intervention). i.branch)
-          (λ (i : Intervention). IsPlaced p.branches i.branch (first_of i.acts))
-          (λ (i : Intervention). IsPlaced bs i.branch (first_of i.acts)) p.interventions n
-          (λ i other k. stays i.branch (first_of i.acts) other k)
-          none.interventions sound.interventions_placed;
-      bookmarks_placed =
-          all_unnamed (λ (b : Bookmark). b.branch) (λ (b : Bookmark). IsPlaced p.branches b.branch b.generation)
-          (λ (b : Bookmark). IsPlaced bs b.branch b.generation) p.bookmarks n
-          (λ b other k. stays b.branch b.generation other k) none.bookmarks
-          sound.bookmarks_placed;
+      given = each_filter _ c p.branches sound.given;
+      few = (let few = sound.few in omega (arith, long, few));
+      within = (let within = sound.within in omega (arith, within));
+      interventions_placed = all_unnamed (λ (i : Intervention). i.branch) _ _ p.interventions n
+          (λ i other k. stays _ _ other k) none.interventions sound.interventions_placed;
+      bookmarks_placed = all_unnamed (λ (b : Bookmark). b.branch) _ _ p.bookmarks n
+          (λ b other k. stays _ _ other k) none.bookmarks sound.bookmarks_placed;
     }
 
 -- without it there are no more marks
@@ -172,9 +135,7 @@ few_unforked p n sound free few =
     let q : Plan = (without_branch p n).plan in
     let less = sum-less (λ (i : Intervention). marks_to (reach q i.branch) i.acts)
     (λ i. marks_to (reach p i.branch) i.acts) p.interventions
-    (all_unnamed (λ (i : Intervention). i.branch)
-    (λ (i : Intervention). IsPlaced p.branches i.branch (first_of i.acts))
-    (λ (i : Intervention). marks_to (reach q i.branch) i.acts ≤ marks_to (reach p i.branch) i.acts) p.interventions n
+    (all_unnamed (λ (i : Intervention). i.branch) _ _ p.interventions n
     (λ i other _. marks_to-more i.acts (reach q i.branch) (reach p i.branch) (reach-unforked p n i.branch other))
     (unused p n free).interventions sound.interventions_placed) in
     omega (arith, less, few)
@@ -189,32 +150,7 @@ IsSound-removed_branch p n sound free =
     (removed p n sound.branches_sound used.0)
 
 sound_opening : (revision : ℕ) → IsSound (opening revision)
-sound_opening revision = record {
-  few_states = (let n = states_of-still in omega (arith, n));
-  start_below = λ x y. (let k = cell-blank x y in let n = states_of-still in omega (arith, k, n));
-  start_inside = λ x y live. absurd (let k = cell-blank x y in omega (arith, k, live));
-  interventions_allowed = tt;
-  interventions_rise = tt;
-  interventions_given = tt;
-  few_interventions = omega arith;
-  interventions_within = omega arith;
-  few_marks = omega arith;
-  bookmarks_near = tt;
-  views_within = tt;
-  bookmarks_rise = tt;
-  bookmarks_given = tt;
-  few_bookmarks = omega arith;
-  bookmarks_within = omega arith;
-  branches_sound = record {
-    forked = tt;
-    rise = tt;
-    given = tt;
-    few = omega arith;
-    within = omega arith;
-    interventions_placed = tt;
-    bookmarks_placed = tt;
-  };
-}
+sound_opening revision = grind (arith, states_of-still, cell-blank)
 
 pub IsSound-opening : (rule : Rule) (start : World) (is : List Intervention) (bs : List Bookmark) (xs : List Branch)
     (revision : ℕ) → rule ≡ still → start ≡ blank → is ≡ [] → bs ≡ [] → xs ≡ []

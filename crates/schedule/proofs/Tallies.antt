@@ -1,28 +1,18 @@
 -- A tally counts what is counted with the reach of each branch anew.
-use Rattle.std.proofs.Common.{◌≡◌, ℕ, ◌+◌, ◌-◌, ◌^◌, ◌==◌, true, false, List, [], ◌∷◌, refl, ap, ◌∙◌, arith}
-use Rattle.std.specs.Prelude.{if◌then◌else◌, fold, min}
+use Rattle.std.proofs.Common.{◌≡◌, ℕ, List, [], ◌∷◌, refl, ap, ◌∙◌, arith}
+use Rattle.std.specs.Prelude.{fold}
 use Rattle.std.proofs.lemmas.Bool.Decides.{nat_tests}
 use Rattle.schedule.specs.declared.acts.Acts.{Acts}
-use Rattle.schedule.specs.declared.acts.Acts.TheVariants.{Once, Every}
 use Rattle.schedule.specs.declared.document.Intervention.{Intervention}
 use Rattle.schedule.specs.declared.repeats.Tally.{Tally}
-use Rattle.schedule.specs.Acts.{marks_to}
 use Rattle.schedule.specs.Repeats.{capped_sum}
-use Rattle.schedule.specs.Tally.{reach_after, tallied, tally_of}
+use Rattle.schedule.specs.Tally.{tallied, tally_of}
 
 -- after one intervention more the sum is right, and the reach is that of the branch at hand
 tally-step : (reaches : ℕ → ℕ) (t : Tally) (b : ℕ) (acts : Acts) → t.reach ≡ reaches t.branch
     → ((tallied reaches t b acts).marks ≡ capped_sum t.marks (reaches b) acts)
     × ((tallied reaches t b acts).reach ≡ reaches (tallied reaches t b acts).branch)
-tally-step reaches t b (Once generation) known = (refl, known)
-tally-step reaches t b (Every first every last) known =
-    let acts : Acts = Every first every last in
-    let after : reach_after reaches t b ≡ reaches b =
-    elim (t.branch == b) as (λ k. t.branch == b ≡ k → (if k then t.reach else reaches b) ≡ reaches b) [
-      | true ↦ λ e. (let same : t.branch ≡ b = grind (arith, nat_tests) in known ∙ ap reaches same)
-      | false ↦ λ e. refl
-    ] refl in
-    (ap (λ n. min (t.marks + marks_to n acts) (2 ^ 64 - 1)) after, after)
+tally-step reaches t b acts known = grind (arith, nat_tests)
 
 tally-from : (reaches : ℕ → ℕ) (acts : Intervention → Acts) (t : Tally) (is : List Intervention)
     → t.reach ≡ reaches t.branch

@@ -1,16 +1,15 @@
 -- What holds where an edit isn't refused: of the cells, the generations and the branches that it names, of the
 -- marks, and of the revision.
-use Rattle.std.proofs.Common.{◌≡◌, ℕ, ◌+◌, ◌-◌, ◌<◌, ◌≤◌, ◌^◌, Bool, true, false, ◌&&◌, not, nat_lt, nat_le, List, ◌∷◌, length, refl, arith, Option, None, Some}
-use Rattle.std.specs.Prelude.{if◌then◌else◌, ◌==◌, is_none}
+use Rattle.std.proofs.Common.{◌≡◌, ℕ, ◌+◌, ◌<◌, ◌≤◌, ◌^◌, Bool, true, false, ◌&&◌, not, nat_le, List, ◌∷◌, length, refl, arith, Option, None, Some}
+use Rattle.std.specs.Prelude.{if◌then◌else◌}
 use Rattle.std.specs.Option.{unwrap_or}
-use Rattle.std.proofs.lemmas.Bool.{or_parts, not-false, ltb-false, leb-false}
+use Rattle.std.proofs.lemmas.Bool.{not-false, ltb-false, leb-false}
 use Rattle.std.proofs.lemmas.Bool.Decides.{nat_tests}
 use Rattle.worlds.specs.declared.cell.CellSet.{CellSet}
 use Rattle.rule_tree.specs.Rule.{states_of}
 use Rattle.bookmarks.specs.declared.view.View.{View}
-use Rattle.bookmarks.specs.Within.{has_window_size, lies_in_range, IsWithin}
+use Rattle.bookmarks.specs.Within.{IsWithin}
 use Rattle.schedule.specs.declared.acts.Acts.{Acts}
-use Rattle.schedule.specs.declared.acts.Acts.TheVariants.{Once, Every}
 use Rattle.schedule.specs.declared.fault.EditFault.{EditFault}
 use Rattle.schedule.specs.declared.fault.EditFault.TheVariants.{GenerationTooFar, BadRepeat, BeforeFork, NoSuchBranch, TooManyInterventions, TooManyBookmarks, TooManyBranches}
 use Rattle.schedule.specs.Plan.{Plan}
@@ -18,7 +17,7 @@ use Rattle.schedule.specs.Sound.{AreNamed, SetBelow, IsPlaced}
 use Rattle.schedule.specs.Acts.{repeats, first_of, IsTimely}
 use Rattle.schedule.specs.Repeats.{repeat_marks, has_too_many_marks}
 use Rattle.schedule.specs.Branches.{has_branch, fork_of, intervention_branch}
-use Rattle.schedule.specs.Change.{first_refusal, for_cells_before, for_marks, for_inserted, for_changed, for_intervention, for_changed_intervention, for_bookmark, for_view, for_branch, acts_too_far, is_bad_repeat, with_intervention, with_changed_intervention, changed_bookmarks, with_branch, stay_in_range, set_below, is_too_far, is_before_fork}
+use Rattle.schedule.specs.Change.{first_refusal, for_cells_before, for_marks, for_inserted, for_changed, for_intervention, for_changed_intervention, for_bookmark, for_view, for_branch, acts_too_far, is_bad_repeat, with_intervention, with_changed_intervention, changed_bookmarks, with_branch, is_too_far, is_before_fork}
 use Rattle.schedule.proofs.Below.{AreNamed-stay, SetBelow-test}
 
 pub passed : (b : Bool) (fault : EditFault) (rest : Option EditFault) → (if b then Some fault else rest) ≡ None
@@ -28,6 +27,7 @@ passed false fault rest h = (refl, h)
 
 -- cells that aren't refused, and what else isn't
 pub record FitCells (p : Plan) (cells : List CellSet) (others : List (Bool × EditFault)) : Type 0 where
+  pub few : length cells ≤ 10000
   pub named : AreNamed cells
   pub below : SetBelow (states_of p.rule) cells
   pub rest : first_refusal others ≡ None
@@ -35,14 +35,7 @@ pub record FitCells (p : Plan) (cells : List CellSet) (others : List (Bool × Ed
 pub fit_cells : (p : Plan) (cells : List CellSet) (others : List (Bool × EditFault))
     → first_refusal (for_cells_before p cells others) ≡ None → FitCells p cells others
 fit_cells p cells others h =
-    let many = passed (nat_lt 10000 (length cells)) _ _ h in
-    let outside = passed (not (stay_in_range cells)) _ _ many.1 in
-    let high = passed (not (set_below (states_of p.rule) cells)) _ _ outside.1 in
-    record {
-      named = AreNamed-stay cells (not-false (stay_in_range cells) outside.0);
-      below = SetBelow-test (states_of p.rule) cells (not-false (set_below (states_of p.rule) cells) high.0);
-      rest = high.1;
-    }
+    grind (arith, nat_tests, AreNamed-stay cells, SetBelow-test (states_of p.rule) cells)
 
 -- marks that aren't refused, nor another revision
 pub record FitMarks (more : Bool) (p q : Plan) : Type 0 where
@@ -50,11 +43,7 @@ pub record FitMarks (more : Bool) (p q : Plan) : Type 0 where
   pub left : p.revision + 1 < 2 ^ 64
 
 pub fit_marks : (more : Bool) (p q : Plan) → first_refusal (for_marks more p q) ≡ None → FitMarks more p q
-fit_marks more p q h =
-    let many = passed (more && has_too_many_marks q) _ _ h in
-    let last = passed (nat_le (2 ^ 64 - 1) p.revision) _ _ many.1 in
-    let low : p.revision < 2 ^ 64 - 1 = leb-false (2 ^ 64 - 1) p.revision last.0 in
-    record { few = many.0; left = omega (arith, low) }
+fit_marks more p q h = grind (arith, nat_tests)
 
 pub few_enough : (q : Plan) → has_too_many_marks q ≡ false → repeat_marks q ≤ 8192
 unfolding has_too_many_marks
@@ -80,24 +69,11 @@ pub record FitPlace (p : Plan) (b generation : ℕ) (others : List (Bool × Edit
 fit_place : (p : Plan) (b generation : ℕ) (others : List (Bool × EditFault))
     → first_refusal ((not (has_branch p.branches b), NoSuchBranch) ∷ (is_too_far generation, GenerationTooFar)
     ∷ (is_before_fork p b generation, BeforeFork) ∷ others) ≡ None → FitPlace p b generation others
-fit_place p b generation others h =
-    let there = passed (not (has_branch p.branches b)) _ _ h in
-    let far = passed (is_too_far generation) _ _ there.1 in
-    let late = passed (is_before_fork p b generation) _ _ far.1 in
-    record {
-      near = near generation far.0;
-      placed = placed p b generation (not-false (has_branch p.branches b) there.0) late.0;
-      rest = late.1;
-    }
+fit_place p b generation others h = grind (arith, nat_tests)
 
 -- when an intervention that isn't refused acts
 timely : (acts : Acts) → acts_too_far acts ≡ false → is_bad_repeat acts ≡ false → IsTimely acts
-timely (Once generation) far bad = near generation far
-timely (Every first every last) far bad =
-    let ends = or_parts (is_too_far first) (is_too_far last) far in
-    let parts = or_parts (every == 0) (nat_lt last first) bad in
-    let some : (every == 0) ≡ false = parts.0 in
-    (grind (arith, nat_tests), ltb-false last first parts.1, near last ends.1)
+timely acts far bad = grind (arith, nat_tests)
 
 pub record FitActs (p : Plan) (b : ℕ) (acts : Acts) (others : List (Bool × EditFault)) : Type 0 where
   pub timely : IsTimely acts
@@ -107,11 +83,7 @@ pub record FitActs (p : Plan) (b : ℕ) (acts : Acts) (others : List (Bool × Ed
 fit_acts : (p : Plan) (b : ℕ) (acts : Acts) (others : List (Bool × EditFault))
     → first_refusal ((acts_too_far acts, GenerationTooFar) ∷ (is_bad_repeat acts, BadRepeat)
     ∷ (is_before_fork p b (first_of acts), BeforeFork) ∷ others) ≡ None → FitActs p b acts others
-fit_acts p b acts others h =
-    let far = passed (acts_too_far acts) _ _ h in
-    let bad = passed (is_bad_repeat acts) _ _ far.1 in
-    let late = passed (is_before_fork p b (first_of acts)) _ _ bad.1 in
-    record { timely = timely acts far.0 bad.0; late = late.0; rest = late.1 }
+fit_acts p b acts others h = grind (arith, timely acts)
 
 -- one more intervention that isn't refused
 pub record FitInsertion (p : Plan) (b : ℕ) (acts : Acts) (cells : List CellSet) : Type 0 where
@@ -129,12 +101,14 @@ fit_insertion p b acts cells h =
     ∷ for_cells_before p cells (for_inserted p b acts cells)) there.1 in
     let many = passed (nat_le 4096 (length p.interventions)) _ _ at.rest in
     let set = fit_cells p cells (for_inserted p b acts cells) many.1 in
+    let marks = fit_marks (repeats acts) p (with_intervention p b acts cells).plan set.rest in
+    let placed = placed p b (first_of acts) in
     record {
-      placed = placed p b (first_of acts) (not-false (has_branch p.branches b) there.0) at.late;
+      placed = placed (not-false (has_branch p.branches b) there.0) at.late;
       timely = at.timely;
       few = leb-false 4096 (length p.interventions) many.0;
       set = set;
-      marks = fit_marks (repeats acts) p (with_intervention p b acts cells).plan set.rest;
+      marks = marks;
     }
 
 -- a changed intervention that isn't
@@ -148,15 +122,10 @@ pub fit_change : (p : Plan) (id : ℕ) (acts : Acts) (cells : List CellSet)
     → first_refusal (for_changed_intervention p id acts cells) ≡ None → FitChange p id acts cells
 fit_change p id acts cells h =
     let b = intervention_branch p.interventions id in
-    let at = fit_acts p (unwrap_or b 0) acts (for_cells_before p cells (for_changed p id acts cells))
-    (passed (is_none b) _ _ h).1 in
-    let set = fit_cells p cells (for_changed p id acts cells) at.rest in
-    record {
-      late = at.late;
-      timely = at.timely;
-      set = set;
-      marks = fit_marks (repeats acts) p (with_changed_intervention p id acts cells).plan set.rest;
-    }
+    let at = fit_acts p (unwrap_or b 0) acts (for_cells_before p cells (for_changed p id acts cells)) in
+    let set = fit_cells p cells (for_changed p id acts cells) in
+    let marks = fit_marks (repeats acts) p (with_changed_intervention p id acts cells).plan in
+    grind (arith, at, set, marks)
 
 -- one more bookmark that isn't
 pub record FitBookmark (p : Plan) (b generation : ℕ) (view : View) : Type 0 where
@@ -170,17 +139,9 @@ pub fit_bookmark : (p : Plan) (b generation : ℕ) (view : View)
     → first_refusal (for_bookmark p b generation view) ≡ None → FitBookmark p b generation view
 fit_bookmark p b generation view h =
     let place = fit_place p b generation ((nat_le 4096 (length p.bookmarks), TooManyBookmarks)
-    ∷ for_view p b generation view) h in
-    let many = passed (nat_le 4096 (length p.bookmarks)) _ _ place.rest in
-    let small = passed (not (has_window_size view)) _ _ many.1 in
-    let outside = passed (not (lies_in_range view)) _ _ small.1 in
-    record {
-      near = place.near;
-      placed = place.placed;
-      few = leb-false 4096 (length p.bookmarks) many.0;
-      within = (not-false (has_window_size view) small.0, not-false (lies_in_range view) outside.0);
-      marks = fit_marks true p (changed_bookmarks p b generation view).plan outside.1;
-    }
+    ∷ for_view p b generation view) in
+    let marks = fit_marks true p (changed_bookmarks p b generation view).plan in
+    grind (arith, nat_tests, place, marks)
 
 -- one more branch that isn't
 pub record FitBranch (p : Plan) (parent generation : ℕ) : Type 0 where
@@ -193,11 +154,6 @@ pub fit_branch : (p : Plan) (parent generation : ℕ) → first_refusal (for_bra
     → FitBranch p parent generation
 fit_branch p parent generation h =
     let place = fit_place p parent generation ((nat_le 64 (length p.branches), TooManyBranches)
-    ∷ for_marks true p (with_branch p parent generation).plan) h in
-    let many = passed (nat_le 64 (length p.branches)) _ _ place.rest in
-    record {
-      near = place.near;
-      placed = place.placed;
-      few = leb-false 64 (length p.branches) many.0;
-      marks = fit_marks true p (with_branch p parent generation).plan many.1;
-    }
+    ∷ for_marks true p (with_branch p parent generation).plan) in
+    let marks = fit_marks true p (with_branch p parent generation).plan in
+    grind (arith, nat_tests, place, marks)

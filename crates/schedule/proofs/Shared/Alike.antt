@@ -48,8 +48,13 @@ pub arrival-within : (p q : Plan) (b g : ℕ) → IsSound p → LayAlikeWithin p
     → arrival p b g ≡ arrival q b g
 arrival-within p q b g sound alike low =
     let forked = sound.branches_sound.forked in
-    arrive-alike (history_of p) (cells_at q.interventions) (λ m k. k ≤ reach p m) (parents_before p.branches forked)
-    (record { earlier = λ m k l le low. omega (arith, le, low); fork = λ m k _ _. forks_reached p m })
+    arrive-alike (history_of p) (cells_at q.interventions) (λ m k. k ≤ reach p m) (λ m k. k ≤ reach p m)
+    (parents_before p.branches forked)
+    (record {
+      earlier = λ m k l le low. omega (arith, le, low);
+      fork = λ m k _ _. forks_reached p m;
+      arrives = λ m k low. low;
+    })
     (fork_of-zero p.branches forked) (forks_rise p.branches forked) alike.lists b b g (omega arith) low
     ∙ same-lines p q b g alike.rule alike.start alike.branches
 
@@ -57,8 +62,8 @@ arrival-within p q b g sound alike low =
 pub arrival-alike : (p q : Plan) (b g : ℕ) → IsSound p → LayAlike p q → arrival p b g ≡ arrival q b g
 arrival-alike p q b g sound alike =
     let forked = sound.branches_sound.forked in
-    arrive-alike (history_of p) (cells_at q.interventions) (λ m k. ⊤) (parents_before p.branches forked)
-    (record { earlier = λ m k l _ _. tt; fork = λ m k _ _. tt })
+    arrive-alike (history_of p) (cells_at q.interventions) (λ m k. ⊤) (λ m k. ⊤) (parents_before p.branches forked)
+    (record { earlier = λ m k l _ _. tt; fork = λ m k _ _. tt; arrives = λ m k _. tt })
     (fork_of-zero p.branches forked) (forks_rise p.branches forked) (λ m k late _. alike.lists m k late) b b g
     (omega arith) tt
     ∙ same-lines p q b g alike.rule alike.start alike.branches

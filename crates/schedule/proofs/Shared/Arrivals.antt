@@ -1,8 +1,6 @@
 -- What arrives at the generations of branches, by the branch before and the generation before.
-use Rattle.std.proofs.Common.{◌≡◌, ℕ, zero, suc, ◌+◌, ◌-◌, ◌<◌, ◌≤◌, ◌==◌, nat_lt, nat_le, Bool, true, false, ◌&&◌, List, [], refl, sym, ap, ap₂, ◌∙◌, subst, arith, Option}
-use Rattle.std.specs.Prelude.{if◌then◌else◌}
-use Rattle.std.specs.Option.{option_map_or}
-use Rattle.std.proofs.lemmas.Bool.{cond-true, cond-false, and_left}
+use Rattle.std.proofs.Common.{◌≡◌, ℕ, zero, suc, ◌+◌, ◌-◌, ◌<◌, ◌≤◌, ◌==◌, nat_lt, nat_le, Bool, false, ◌&&◌, List, [], refl, sym, ap, ◌∙◌, subst, arith}
+use Rattle.std.proofs.lemmas.Bool.{cond-false}
 use Rattle.std.proofs.lemmas.Bool.Decides.{nat_tests}
 use Rattle.worlds.specs.declared.cell.CellSet.{CellSet}
 use Rattle.worlds.specs.World.{World}
@@ -46,21 +44,12 @@ pub arrive-enough : (h : History) → ParentsComeBefore h.branches → (n m b g 
     → arrive h n b g ≡ arrive h m b g
 unfolding arrive
 arrive-enough h parents zero zero b g low few = refl
-arrive-enough h parents zero (suc m) b g low few = sym (cond-true (b == 0) _ _ (grind (arith, nat_tests)))
-arrive-enough h parents (suc n) zero b g low few = cond-true (b == 0) _ _ (grind (arith, nat_tests))
+arrive-enough h parents zero (suc m) b g low few = grind (arith, nat_tests)
+arrive-enough h parents (suc n) zero b g low few = grind (arith, nat_tests)
 arrive-enough h parents (suc n) (suc m) b g low few =
-    let q = parent_of h.branches b in
-    let f = fork_of h.branches b in
-    let along : World → World = λ w. line.arrive h.next (λ k. h.cells b (f + k)) (lay (h.cells q f) w) (g - f) in
-    elim (b == 0) as (λ t. b == 0 ≡ t → (if t then line.arrive h.next (h.cells b) h.start g
-    else along (arrive h n q f)) ≡ (if t then line.arrive h.next (h.cells b) h.start g
-    else along (arrive h m q f))) [
-      | true ↦ λ e. refl
-      | false ↦ λ e.
-          let above : 0 < b = grind (arith, nat_tests) in
-          let before : q < b = parents b above in
-          ap along (arrive-enough h parents n m q f (omega (arith, before, low)) (omega (arith, before, few)))
-    ] refl
+    let before = parents b in
+    let rest = arrive-enough h parents n m (parent_of h.branches b) (fork_of h.branches b) in
+    grind (arith, nat_tests, before, rest)
 
 -- at its fork a branch has what leaves its parent
 pub arrive-fork : (h : History) → ParentsComeBefore h.branches → (b : ℕ) → 0 < b
@@ -76,23 +65,6 @@ arrive-fork h parents (suc n) above =
     arrive-branch h n b f (above_zero n) ∙ ap (line.arrive h.next (λ k. h.cells b (f + k)) (left h n b)) none
     ∙ arrive-zero h.next (λ k. h.cells b (f + k)) (left h n b)
     ∙ ap (lay (h.cells q f)) (arrive-enough h parents n q q f (omega (arith, before)) (omega arith))
-
--- a generation more of a branch is a step
-pub arrive-next : (h : History) (b g : ℕ) → fork_of h.branches b ≤ g
-    → arrive h b b (g + 1) ≡ step h.next (lay (h.cells b g) (arrive h b b g))
-arrive-next h zero g late = arrive-root h 0 (g + 1) ∙ arrive-one_more h.next (h.cells 0) h.start g
-    ∙ ap (λ w. step h.next (lay (h.cells 0 g) w)) (sym (arrive-root h 0 g))
-arrive-next h (suc n) g late =
-    let b = suc n in
-    let f = fork_of h.branches b in
-    let other : (b == 0) ≡ false = above_zero n in
-    let own : ℕ → List CellSet = λ k. h.cells b (f + k) in
-    let more : (g + 1) - f ≡ (g - f) + 1 = omega (arith, late) in
-    let back : f + (g - f) ≡ g = omega (arith, late) in
-    arrive-branch h n b (g + 1) other ∙ ap (line.arrive h.next own (left h n b)) more
-    ∙ arrive-one_more h.next own (left h n b) (g - f)
-    ∙ ap (λ k. step h.next (lay (h.cells b k) (line.arrive h.next own (left h n b) (g - f)))) back
-    ∙ ap (λ w. step h.next (lay (h.cells b g) w)) (sym (arrive-branch h n b g other))
 
 -- where a branch lays nothing within a gap, the end is that many steps from what left the beginning
 pub arrive-undisturbed : (h : History) (b g n : ℕ) → fork_of h.branches b ≤ g
@@ -114,110 +86,37 @@ arrive-undisturbed h (suc m) g n late quiet =
     ∙ ap (λ k. iterate (suc n) (step h.next) (lay (h.cells b k) (line.arrive h.next own (left h m b) (g - f)))) back
     ∙ ap (λ w. iterate (suc n) (step h.next) (lay (h.cells b g) w)) (sym (arrive-branch h m b g other))
 
--- a line with other cells and another beginning
-line-both : (next : List ℕ → ℕ) (cells others : ℕ → List CellSet) (v w : World) (g : ℕ)
-    → ((k : ℕ) → k < g → cells k ≡ others k) → v ≡ w → line.arrive next cells v g ≡ line.arrive next others w g
-line-both next cells others v w g same is = arrive-past next cells others v g same
-    ∙ ap (λ u. line.arrive next others u g) is
-
 -- what isn't felt at a generation isn't at an earlier one
 pub felt-earlier : (branches : List Branch) (n b g later c k : ℕ) → g ≤ later → is_felt branches n b later c k ≡ false
     → is_felt branches n b g c k ≡ false
 unfolding is_felt
-felt-earlier branches zero b g later c k le h =
-    elim (b == c) as (λ t. (t && nat_lt k later) ≡ false → (t && nat_lt k g) ≡ false) [
-      | true ↦ λ e. grind (arith, nat_tests)
-      | false ↦ λ _. refl
-    ] h
-felt-earlier branches (suc n) b g later c k le h =
-    elim (b == c)
-    as (λ t. (if t then nat_lt k later else if b == 0 then false
-    else is_felt branches n (parent_of branches b) (fork_of branches b + 1) c k) ≡ false
-    → (if t then nat_lt k g else if b == 0 then false
-    else is_felt branches n (parent_of branches b) (fork_of branches b + 1) c k) ≡ false) [
-      | true ↦ λ e. grind (arith, nat_tests)
-      | false ↦ λ e. e
-    ] h
+felt-earlier branches zero b g later c k le h = grind (arith, nat_tests)
+felt-earlier branches (suc n) b g later c k le h = grind (arith, nat_tests)
 
 -- and what is laid in the branch itself isn't laid before
 pub felt-own : (branches : List Branch) (n b g c k : ℕ) → is_felt branches n b g c k ≡ false
     → (b == c && nat_lt k g) ≡ false
 unfolding is_felt
 felt-own branches zero b g c k h = h
-felt-own branches (suc n) b g c k h =
-    elim (b == c) as (λ t. (if t then nat_lt k g else if b == 0 then false
-    else is_felt branches n (parent_of branches b) (fork_of branches b + 1) c k) ≡ false
-    → (t && nat_lt k g) ≡ false) [
-      | true ↦ λ e. e
-      | false ↦ λ e. refl
-    ] h
+felt-own branches (suc n) b g c k h = grind arith
 
 -- a branch doesn't feel those of greater ids
 pub felt-above : (branches : List Branch) → ParentsComeBefore branches → (n b g c k : ℕ) → b < c
     → is_felt branches n b g c k ≡ false
 unfolding is_felt
-felt-above branches parents zero b g c k low = and_left (b == c) (nat_lt k g) (grind (arith, nat_tests))
+felt-above branches parents zero b g c k low = grind (arith, nat_tests)
 felt-above branches parents (suc n) b g c k low =
-    let q = parent_of branches b in
-    let f = fork_of branches b in
-    cond-false (b == c) (nat_lt k g) (if b == 0 then false else is_felt branches n q (f + 1) c k)
-    (grind (arith, nat_tests))
-    ∙ elim (b == 0) as (λ t. b == 0 ≡ t → (if t then false else is_felt branches n q (f + 1) c k) ≡ false) [
-      | true ↦ λ e. refl
-      | false ↦ λ e.
-          let above : 0 < b = grind (arith, nat_tests) in
-          let before : q < b = parents b above in
-          felt-above branches parents n q (f + 1) c k (omega (arith, before, low))
-    ] refl
+    let before = parents b in
+    let rest = felt-above branches parents n (parent_of branches b) (fork_of branches b + 1) c k in
+    grind (arith, nat_tests, before, rest)
 
 before_it : (t : Bool) (k g j : ℕ) → (t && nat_lt k g) ≡ false → j < g → (t && nat_le k j) ≡ false
-before_it true k g j h low = grind (arith, nat_tests)
-before_it false k g j h low = refl
+before_it t k g j h low = grind (arith, nat_tests)
 
 -- cells of a generation whose next doesn't feel it are laid elsewhere
 pub unfelt_cells : (branches : List Branch) (n b g c k : ℕ) → is_felt branches n b (g + 1) c k ≡ false
     → (b == c && nat_le k g) ≡ false
 unfelt_cells branches n b g c k h = before_it (b == c) k (g + 1) g (felt-own branches n b (g + 1) c k h) (omega arith)
-
--- what is laid where it isn't felt doesn't matter
-pub arrive-unfelt : (h : History) (others : ℕ → ℕ → List CellSet) (c k : ℕ) → ParentsComeBefore h.branches
-    → ((b g : ℕ) → (b == c && nat_le k g) ≡ false → h.cells b g ≡ others b g)
-    → (n b g : ℕ) → is_felt h.branches n b g c k ≡ false → arrive h n b g ≡ arrive (record h { cells = others }) n b g
-unfolding arrive is_felt
-arrive-unfelt h others c k parents same zero b g unfelt =
-    arrive-past h.next (h.cells b) (others b) h.start g (λ j low. same b j (before_it (b == c) k g j unfelt low))
-arrive-unfelt h others c k parents same (suc n) b g unfelt =
-    let o : History = record h { cells = others } in
-    let q = parent_of h.branches b in
-    let f = fork_of h.branches b in
-    let own : (b == c && nat_lt k g) ≡ false = felt-own h.branches (suc n) b g c k unfelt in
-    let alike : (j : ℕ) → j < g → h.cells b j ≡ others b j = λ j low. same b j (before_it (b == c) k g j own low) in
-    let here : (j : ℕ) → j < g - f → h.cells b (f + j) ≡ others b (f + j) =
-    λ j low. alike (f + j) (omega (arith, low)) in
-    elim (b == 0)
-    as (λ t. b == 0 ≡ t → (if b == c then nat_lt k g else if t then false
-    else is_felt h.branches n q (f + 1) c k) ≡ false
-    → (if t then line.arrive h.next (h.cells b) h.start g
-    else line.arrive h.next (λ j. h.cells b (f + j)) (lay (h.cells q f) (arrive h n q f)) (g - f))
-    ≡ (if t then line.arrive h.next (others b) h.start g
-    else line.arrive h.next (λ j. others b (f + j)) (lay (others q f) (arrive o n q f)) (g - f))) [
-      | true ↦ λ e _. arrive-past h.next (h.cells b) (others b) h.start g alike
-      | false ↦ λ e felt.
-          let above : 0 < b = grind (arith, nat_tests) in
-          let before : q < b = parents b above in
-          let parent : is_felt h.branches n q (f + 1) c k ≡ false =
-          elim (b == c) as (λ t. b == c ≡ t → (if t then nat_lt k g else is_felt h.branches n q (f + 1) c k) ≡ false
-          → is_felt h.branches n q (f + 1) c k ≡ false) [
-            | true ↦ λ is _. felt-above h.branches parents n q (f + 1) c k
-                (let equal : b ≡ c = grind (arith, nat_tests) in omega (arith, equal, before))
-            | false ↦ λ is m. m
-          ] refl felt in
-          let laid : (q == c && nat_le k f) ≡ false = unfelt_cells h.branches n q f c k parent in
-          line-both h.next (λ j. h.cells b (f + j)) (λ j. others b (f + j)) (lay (h.cells q f) (arrive h n q f))
-          (lay (others q f) (arrive o n q f)) (g - f) here
-          (ap₂ lay (same q f laid) (arrive-unfelt h others c k parents same n q f
-          (felt-earlier h.branches n q f (f + 1) c k (omega arith) parent)))
-    ] refl unfelt
 
 -- a line whose cells give each generation before another the same world
 line-alike : (next : List ℕ → ℕ) (cells others : ℕ → List CellSet) (w : World) (g : ℕ)
@@ -229,27 +128,29 @@ line-alike next cells others w (suc g) same =
     ap (step next) (same g (omega arith) ∙ ap (lay (others g))
     (line-alike next cells others w g (λ k low. same k (omega (arith, low)))))
 
--- some generations of branches count: with one all before it, and with one of a branch the fork in its parent
-pub record AreEarlier (branches : List Branch) (Counts : ℕ → ℕ → Type 0) : Type 0 where
-  pub earlier : (b g k : ℕ) → k ≤ g → Counts b g → Counts b k
-  pub fork : (b g : ℕ) → 0 < b → Counts b g → Counts (parent_of branches b) (fork_of branches b)
+-- some generations of branches count, as they arrive and as they are left: with one that arrives all that are left
+-- before it, and with one of a branch the fork in its parent
+pub record AreEarlier (branches : List Branch) (Counts Leaves : ℕ → ℕ → Type 0) : Type 0 where
+  pub earlier : (b g k : ℕ) → k < g → Counts b g → Leaves b k
+  pub fork : (b g : ℕ) → 0 < b → Counts b g → Leaves (parent_of branches b) (fork_of branches b)
+  pub arrives : (b g : ℕ) → Leaves b g → Counts b g
 
 -- cells that give each generation that counts the same world don't matter for those
-pub arrive-alike : (h : History) (others : ℕ → ℕ → List CellSet) (Counts : ℕ → ℕ → Type 0)
-    → ParentsComeBefore h.branches → AreEarlier h.branches Counts → fork_of h.branches 0 ≡ 0
+pub arrive-alike : (h : History) (others : ℕ → ℕ → List CellSet) (Counts Leaves : ℕ → ℕ → Type 0)
+    → ParentsComeBefore h.branches → AreEarlier h.branches Counts Leaves → fork_of h.branches 0 ≡ 0
     → ((b : ℕ) → fork_of h.branches (parent_of h.branches b) ≤ fork_of h.branches b)
-    → ((b g : ℕ) → fork_of h.branches b ≤ g → Counts b g
+    → ((b g : ℕ) → fork_of h.branches b ≤ g → Leaves b g
     → lay (h.cells b g) (arrive h b b g) ≡ lay (others b g) (arrive h b b g))
     → (n b g : ℕ) → b ≤ n → Counts b g → arrive h n b g ≡ arrive (record h { cells = others }) n b g
-arrive-alike h others Counts parents before root rise same n zero g le counts =
+arrive-alike h others Counts Leaves parents before root rise same n zero g le counts =
     let o : History = record h { cells = others } in
     arrive-root h n g
     ∙ line-alike h.next (h.cells 0) (others 0) h.start g
     (λ k low. subst (λ w. lay (h.cells 0 k) w ≡ lay (others 0 k) w) (arrive-root h 0 k)
-    (same 0 k (omega (arith, root)) (before.earlier 0 g k (omega (arith, low)) counts)))
+    (same 0 k (omega (arith, root)) (before.earlier 0 g k low counts)))
     ∙ sym (arrive-root o n g)
-arrive-alike h others Counts parents before root rise same zero (suc b) g le counts = absurd (omega (arith, le))
-arrive-alike h others Counts parents before root rise same (suc n) (suc m) g le counts =
+arrive-alike h others Counts Leaves parents before root rise same zero (suc b) g le counts = absurd (omega (arith, le))
+arrive-alike h others Counts Leaves parents before root rise same (suc n) (suc m) g le counts =
     let o : History = record h { cells = others } in
     let b = suc m in
     let q = parent_of h.branches b in
@@ -257,13 +158,13 @@ arrive-alike h others Counts parents before root rise same (suc n) (suc m) g le 
     let other : (b == 0) ≡ false = above_zero m in
     let lesser : q < b = parents b (omega arith) in
     let few : q ≤ n = omega (arith, lesser, le) in
-    let at : Counts q f = before.fork b g (omega arith) counts in
+    let at = before.fork b g (omega arith) counts in
     let own : ℕ → List CellSet = λ k. h.cells b (f + k) in
     let theirs : ℕ → List CellSet = λ k. others b (f + k) in
     let begins : left h n b ≡ left o n b =
     subst (λ w. lay (h.cells q f) w ≡ lay (others q f) w) (arrive-enough h parents q n q f (omega arith) few)
     (same q f (rise b) at)
-    ∙ ap (lay (others q f)) (arrive-alike h others Counts parents before root rise same n q f few at) in
+    ∙ ap (lay (others q f)) (arrive-alike h others Counts Leaves parents before root rise same n q f few (before.arrives q f at)) in
     let reached : (k : ℕ) → arrive h b b (f + k) ≡ line.arrive h.next own (left h n b) k = λ k.
     arrive-enough h parents b (suc n) b (f + k) (omega arith) le ∙ arrive-branch h n b (f + k) other
     ∙ (let back : (f + k) - f ≡ k = omega arith in ap (line.arrive h.next own (left h n b)) back) in
@@ -282,18 +183,8 @@ pub arrive-elsewhere : (h : History) (others : List Branch) (Stays : ℕ → Typ
 unfolding arrive
 arrive-elsewhere h others Stays back same zero b g stays = refl
 arrive-elsewhere h others Stays back same (suc n) b g stays =
-    let o : History = record h { branches = others } in
-    let fork : Option Branch → ℕ = λ x. option_map_or (λ (y : Branch). y.fork) x 0 in
-    let parent : Option Branch → ℕ = λ x. option_map_or (λ (y : Branch). y.parent) x 0 in
-    let along : Option Branch → World → World =
-    λ x w. line.arrive h.next (λ k. h.cells b (fork x + k)) (lay (h.cells (parent x) (fork x)) w) (g - fork x) in
-    let x = element_at branch_id h.branches b in
-    elim (b == 0) as (λ t. (if t then line.arrive h.next (h.cells b) h.start g
-    else along x (arrive h n (parent x) (fork x)))
-    ≡ (if t then line.arrive h.next (h.cells b) h.start g
-    else along (element_at branch_id others b)
-    (arrive o n (parent (element_at branch_id others b)) (fork (element_at branch_id others b))))) [
-      | true ↦ refl
-      | false ↦ ap (along x) (arrive-elsewhere h others Stays back same n (parent x) (fork x) (back b stays))
-          ∙ ap (λ y. along y (arrive o n (parent y) (fork y))) (sym (same b stays))
-    ]
+    rw (
+      same b stays,
+      arrive-elsewhere h others Stays back same n (parent_of h.branches b) (fork_of h.branches b)
+          (back b stays),
+    ) refl

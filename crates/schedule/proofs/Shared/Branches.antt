@@ -1,9 +1,9 @@
 -- What the list of branches says of each by its id.
-use Rattle.std.proofs.Common.{◌≡◌, ℕ, ◌<◌, ◌≤◌, ◌^◌, ◌==◌, true, false, cond, not, nat_lt, List, [], ◌∷◌, ◌++◌, filter, refl, sym, ap, ◌∙◌, subst, arith, Option, None, Some}
-use Rattle.std.specs.Prelude.{find, ◌||◌, IfSome}
+use Rattle.std.proofs.Common.{◌≡◌, ℕ, ◌<◌, ◌≤◌, ◌^◌, ◌==◌, true, false, not, List, [], ◌∷◌, ◌++◌, filter, refl, ap, arith, Option, None, Some}
+use Rattle.std.specs.Prelude.{IfSome}
 use Rattle.std.specs.List.{AllByRecursion}
 use Rattle.std.specs.Option.{option_map_or}
-use Rattle.std.proofs.lemmas.Bool.{cond-false, or_parts}
+use Rattle.std.proofs.lemmas.Bool.{or_parts}
 use Rattle.std.proofs.lemmas.Bool.Decides.{nat_tests}
 use Rattle.schedule.specs.declared.branch.Branch.{Branch}
 use Rattle.schedule.specs.Ids.{branch_id, has_id}
@@ -16,12 +16,7 @@ use Rattle.schedule.specs.Sound.{IsPlaced, IsForked}
 pub element_at-is : {X : Type 0} (id : X → ℕ) (P : X → Type 0) (xs : List X) (n : ℕ) → AllByRecursion P xs
     → IfSome (element_at id xs n) (λ x. (id x ≡ n) × P x)
 element_at-is id P [] n h = tt
-element_at-is id P (x ∷ xs) n h =
-    elim (id x == n) as (λ t. id x == n ≡ t → IfSome (cond t (Some x) (find (λ y. id y == n) xs))
-    (λ y. (id y ≡ n) × P y)) [
-      | true ↦ λ e. ((let k : (id x == n) ≡ true = e in grind (arith, nat_tests)), h.0)
-      | false ↦ λ e. element_at-is id P xs n h.1
-    ] refl
+element_at-is id P (x ∷ xs) n h = grind (arith, nat_tests, element_at-is id P xs n h.1)
 
 -- what holds of a number that is read off a branch, where it holds of every branch of the list and
 -- of 0 elsewhere
@@ -39,8 +34,7 @@ read_off f P Q branches b all listed other =
 unlisted : (branches : List Branch) → AllByRecursion (λ (x : Branch). 0 < x.id) branches
     → element_at branch_id branches 0 ≡ None
 unlisted [] h = refl
-unlisted (x ∷ branches) h = cond-false (x.id == 0) _ _ (let k : 0 < x.id = h.0 in grind (arith, nat_tests))
-    ∙ unlisted branches h.1
+unlisted (x ∷ branches) h = grind (arith, nat_tests, unlisted branches h.1)
 
 listed_above : (all branches : List Branch) → AllByRecursion (IsForked all) branches
     → AllByRecursion (λ (x : Branch). 0 < x.id) branches
@@ -73,130 +67,77 @@ forks_near branches h b = read_off (λ x. x.fork) (IsForked branches) (λ n. n �
 pub forks_rise : (branches : List Branch) → AllByRecursion (IsForked branches) branches → (b : ℕ)
     → fork_of branches (parent_of branches b) ≤ fork_of branches b
 forks_rise branches h b =
+    let root = fork_of-zero branches h in
+    let is = element_at-is branch_id (IsForked branches) branches b h in
     elim (element_at branch_id branches b)
     as (λ o. IfSome o (λ (x : Branch). (x.id ≡ b) × IsForked branches x)
-    → fork_of branches (option_map_or (λ (x : Branch). x.parent) o 0) ≤ option_map_or
-    (λ (x : Branch). x.fork) o 0) [
-      | None ↦ λ _. subst (λ n. n ≤ 0) (sym (fork_of-zero branches h)) (omega arith)
-      | Some x ↦ λ k. k.1.placed.from_fork
-    ] (element_at-is branch_id (IsForked branches) branches b h)
+    → fork_of branches (option_map_or (λ (x : Branch). x.parent) o 0)
+    ≤ option_map_or (λ (x : Branch). x.fork) o 0)
+    [ None ↦ λ _. omega (arith, root) | Some x ↦ λ k. k.1.placed.from_fork ] is
 
 -- no branch has an id above the last that was given
 listed_given : (branches : List Branch) (last b : ℕ) → AllByRecursion (λ (x : Branch). x.id ≤ last) branches
     → last < b → has_id branch_id branches b ≡ false
 listed_given [] last b h above = refl
-listed_given (x ∷ branches) last b h above =
-    let k : x.id ≤ last = h.0 in
-    let e : (x.id == b) ≡ false = grind (arith, nat_tests) in
-    ap (λ t. t || has_id branch_id branches b) e ∙ listed_given branches last b h.1 above
+listed_given (x ∷ branches) last b h above = grind (arith, nat_tests, listed_given branches last b h.1 above)
 
 -- one more branch at the end changes none of a lesser id
 element_at-more : (branches : List Branch) (x : Branch) (b : ℕ) → (x.id == b) ≡ false
     → element_at branch_id (branches ++ x ∷ []) b ≡ element_at branch_id branches b
-element_at-more [] x b other = cond-false (x.id == b) _ _ other
-element_at-more (y ∷ branches) x b other =
-    ap (λ (o : Option Branch). cond (y.id == b) (Some y) o) (element_at-more branches x b other)
+element_at-more [] x b other = grind arith
+element_at-more (y ∷ branches) x b other = grind (arith, element_at-more branches x b other)
 
 has_id-more : (branches : List Branch) (x : Branch) (b : ℕ) → has_id branch_id branches b ≡ true
     → has_id branch_id (branches ++ x ∷ []) b ≡ true
 has_id-more [] x b h = absurd cc
-has_id-more (y ∷ branches) x b h =
-    elim (y.id == b) as (λ t. (t || has_id branch_id branches b) ≡ true
-    → (t || has_id branch_id (branches ++ x ∷ []) b) ≡ true) [
-      | true ↦ λ _. refl
-      | false ↦ λ k. has_id-more branches x b k
-    ] h
+has_id-more (y ∷ branches) x b h = grind (arith, has_id-more branches x b)
 
 pub has_branch-more : (branches : List Branch) (x : Branch) (b : ℕ) → has_branch branches b ≡ true
     → has_branch (branches ++ x ∷ []) b ≡ true
-has_branch-more branches x b h =
-    elim (b == 0) as (λ t. (t || has_id branch_id branches b) ≡ true
-    → (t || has_id branch_id (branches ++ x ∷ []) b) ≡ true) [
-      | true ↦ λ _. refl
-      | false ↦ λ k. has_id-more branches x b k
-    ] h
+has_branch-more branches x b h = grind (arith, has_id-more branches x b)
 
 -- a branch that is there has an id up to the last that was given
 pub has_branch-given : (branches : List Branch) (last b : ℕ) → AllByRecursion (λ (x : Branch). x.id ≤ last) branches
     → has_branch branches b ≡ true → b ≤ last
 has_branch-given branches last b given there =
-    elim (nat_lt last b) as (λ t. nat_lt last b ≡ t → b ≤ last) [
-      | true ↦ λ e.
-          let above : last < b = grind (arith, nat_tests) in
-          let zero : (b == 0) ≡ false = grind (arith, nat_tests) in
-          absurd (let none : has_branch branches b ≡ false = ap (λ t. t || has_id branch_id branches b) zero
-          ∙ listed_given branches last b given above in cc)
-      | false ↦ λ e. grind (arith, nat_tests)
-    ] refl
+    let none = listed_given branches last b given in grind (arith, nat_tests, none)
 
 -- what the list says of a branch that is there stays where one is added at the end
 pub element_at-added : (branches : List Branch) (x : Branch) (last b : ℕ)
     → AllByRecursion (λ (y : Branch). y.id ≤ last) branches → last < x.id → has_branch branches b ≡ true
     → element_at branch_id (branches ++ x ∷ []) b ≡ element_at branch_id branches b
 element_at-added branches x last b given above there =
-    element_at-more branches x b (let low : b ≤ last = has_branch-given branches last b given there in
-    grind (arith, nat_tests))
+    element_at-more branches x b
+    (let low = has_branch-given branches last b given there in grind (arith, nat_tests))
 
 pub IsPlaced-more : (branches : List Branch) (x : Branch) (last b g : ℕ)
     → AllByRecursion (λ (y : Branch). y.id ≤ last) branches → last < x.id → IsPlaced branches b g
     → IsPlaced (branches ++ x ∷ []) b g
-IsPlaced-more branches x last b g given above h =
-    let same = element_at-added branches x last b given above h.there in
-    record {
-      there = has_branch-more branches x b h.there;
-      from_fork = subst (λ (o : Option Branch). option_map_or (λ (y : Branch). y.fork) o 0 ≤ g)
-          (sym same) h.from_fork;
-    }
+IsPlaced-more branches x last b g given above h = record {
+  there = has_branch-more branches x b h.there;
+  from_fork = rw (element_at-added branches x last b given above h.there) h.from_fork;
+}
 
 -- another branch's removal changes none
 pub element_at-without : (branches : List Branch) (n b : ℕ) → (b == n) ≡ false
     → element_at branch_id (filter (λ (x : Branch). not (x.id == n)) branches) b ≡ element_at branch_id branches b
 element_at-without [] n b other = refl
-element_at-without (x ∷ branches) n b other =
-    elim (x.id == n) as (λ t. x.id == n ≡ t → element_at branch_id
-    (cond (not t) (x ∷ filter (λ (y : Branch). not (y.id == n)) branches)
-    (filter (λ (y : Branch). not (y.id == n)) branches)) b ≡ cond (x.id == b) (Some x)
-    (element_at branch_id branches b)) [
-      | true ↦ λ e.
-          let apart : (x.id == b) ≡ false = grind (arith, nat_tests) in
-          element_at-without branches n b other ∙ sym (cond-false (x.id == b) (Some x)
-          (element_at branch_id branches b) apart)
-      | false ↦ λ e. ap (λ (o : Option Branch). cond (x.id == b) (Some x) o) (element_at-without branches n b other)
-    ] refl
+element_at-without (x ∷ branches) n b other = grind (arith, nat_tests, element_at-without branches n b other)
 
 has_id-without : (branches : List Branch) (n b : ℕ) → (b == n) ≡ false → has_id branch_id branches b ≡ true
     → has_id branch_id (filter (λ (x : Branch). not (x.id == n)) branches) b ≡ true
 has_id-without [] n b other h = absurd cc
-has_id-without (x ∷ branches) n b other h =
-    elim (x.id == n) as (λ t. x.id == n ≡ t → has_id branch_id
-    (cond (not t) (x ∷ filter (λ (y : Branch). not (y.id == n)) branches)
-    (filter (λ (y : Branch). not (y.id == n)) branches)) b ≡ true) [
-      | true ↦ λ e.
-          let apart : (x.id == b) ≡ false = grind (arith, nat_tests) in
-          has_id-without branches n b other (ap (λ t. t || has_id branch_id branches b) (sym apart) ∙ h)
-      | false ↦ λ e.
-          elim (x.id == b) as (λ t. (t || has_id branch_id branches b) ≡ true
-          → (t || has_id branch_id (filter (λ (y : Branch). not (y.id == n)) branches) b) ≡ true) [
-            | true ↦ λ _. refl
-            | false ↦ λ k. has_id-without branches n b other k
-          ] h
-    ] refl
+has_id-without (x ∷ branches) n b other h = grind (arith, nat_tests, has_id-without branches n b other)
 
 pub has_branch-without : (branches : List Branch) (n b : ℕ) → (b == n) ≡ false → has_branch branches b ≡ true
     → has_branch (filter (λ (x : Branch). not (x.id == n)) branches) b ≡ true
-has_branch-without branches n b other h =
-    elim (b == 0) as (λ t. (t || has_id branch_id branches b) ≡ true
-    → (t || has_id branch_id (filter (λ (x : Branch). not (x.id == n)) branches) b) ≡ true) [
-      | true ↦ λ _. refl
-      | false ↦ λ k. has_id-without branches n b other k
-    ] h
+has_branch-without branches n b other h = grind (arith, has_id-without branches n b other)
 
 pub IsPlaced-without : (branches : List Branch) (n b g : ℕ) → (b == n) ≡ false → IsPlaced branches b g
     → IsPlaced (filter (λ (x : Branch). not (x.id == n)) branches) b g
 IsPlaced-without branches n b g other h = record {
   there = has_branch-without branches n b other h.there;
-  from_fork = subst (λ (o : Option Branch). option_map_or (λ (x : Branch). x.fork) o 0 ≤ g)
-      (sym (element_at-without branches n b other)) h.from_fork;
+  from_fork = rw (element_at-without branches n b other) h.from_fork;
 }
 
 -- nothing is in a branch that isn't in use, and none leaves it
@@ -207,9 +148,4 @@ pub record IsUnused (p : Plan) (n : ℕ) : Type 0 where
   pub children : has_children p.branches n ≡ false
 
 pub unused : (p : Plan) (n : ℕ) → is_in_use p n ≡ false → IsUnused p n
-unused p n free =
-    let halves = or_parts (n == 0 || has_interventions p.interventions n)
-    (has_bookmarks p.bookmarks n || has_children p.branches n) free in
-    let own = or_parts (n == 0) (has_interventions p.interventions n) halves.0 in
-    let others = or_parts (has_bookmarks p.bookmarks n) (has_children p.branches n) halves.1 in
-    record { beside = own.0; interventions = own.1; bookmarks = others.0; children = others.1 }
+unused p n free = grind (arith, or_parts)

@@ -11,19 +11,8 @@ use Rattle.schedule.proofs.SoundLists.{IsSound-intervention, IsSound-changed_int
 
 -- a rule that is asked for has states, and not too many
 abbrev pub HasStates : Asked → Type 0
-HasStates (InsertIntervention b generation cells) = ⊤
-HasStates (ChangeIntervention id generation cells) = ⊤
-HasStates (InsertRepeat b first every last cells) = ⊤
-HasStates (ChangeRepeat id first every last cells) = ⊤
-HasStates (RemoveIntervention id) = ⊤
-HasStates (SetCells cells) = ⊤
-HasStates (ReplaceStart start) = ⊤
 HasStates (ReplaceRule rule) = (0 < states_of rule) × (states_of rule ≤ 256)
-HasStates (AddBookmark b generation view) = ⊤
-HasStates (MoveBookmark id generation) = ⊤
-HasStates (RemoveBookmark id) = ⊤
-HasStates (AddBranch parent generation) = ⊤
-HasStates (RemoveBranch b) = ⊤
+HasStates _ = ⊤
 
 pub sound_changed : (p : Plan) (asked : Asked) → IsSound p → 0 < states_of p.rule → HasStates asked
     → refusal p asked ≡ None → IsSound (changed p asked).plan
@@ -51,16 +40,5 @@ sound_changed p (RemoveBranch b) sound some has free = IsSound-removed_branch p 
 -- and its rule still has states
 pub some_changed : (p : Plan) (asked : Asked) → 0 < states_of p.rule → HasStates asked
     → 0 < states_of (changed p asked).plan.rule
-some_changed p (InsertIntervention b generation cells) some has = some
-some_changed p (ChangeIntervention id generation cells) some has = some
-some_changed p (InsertRepeat b first every last cells) some has = some
-some_changed p (ChangeRepeat id first every last cells) some has = some
-some_changed p (RemoveIntervention id) some has = some
-some_changed p (SetCells cells) some has = some
-some_changed p (ReplaceStart start) some has = some
 some_changed p (ReplaceRule rule) some has = has.0
-some_changed p (AddBookmark b generation view) some has = some
-some_changed p (MoveBookmark id generation) some has = some
-some_changed p (RemoveBookmark id) some has = some
-some_changed p (AddBranch parent generation) some has = some
-some_changed p (RemoveBranch b) some has = some
+some_changed p asked some has = some

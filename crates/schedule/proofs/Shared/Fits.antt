@@ -4,7 +4,7 @@ use Rattle.std.proofs.Common.{◌≡◌, ℕ, ◌≤◌, None}
 use Rattle.std.specs.Prelude.{All}
 use Rattle.worlds.specs.Range.{CanBeLaid}
 use Rattle.rule_tree.specs.Rule.{states_of}
-use Rattle.schedule.specs.Asked.{Asked, InsertIntervention, ChangeIntervention, InsertRepeat, ChangeRepeat, RemoveIntervention, SetCells, ReplaceStart, ReplaceRule, AddBookmark, MoveBookmark, RemoveBookmark, AddBranch, RemoveBranch}
+use Rattle.schedule.specs.Asked.{Asked, InsertIntervention, ChangeIntervention, InsertRepeat, ChangeRepeat, RemoveIntervention, AddBookmark, MoveBookmark, RemoveBookmark, AddBranch, RemoveBranch}
 use Rattle.schedule.specs.declared.acts.Acts.TheVariants.{Once, Every}
 use Rattle.schedule.specs.Change.{changed, first_refusal, refusals}
 use Rattle.schedule.specs.Repeats.{repeat_marks}
@@ -37,14 +37,7 @@ CanBeLaid-changed p (ChangeRepeat id first every last cells) b g sound free =
     (IsSound-changed_intervention p id (Every first every last) cells sound free)
 CanBeLaid-changed p (RemoveIntervention id) b g sound free =
     CanBeLaid-at (changed p (RemoveIntervention id)).plan b g (IsSound-removed_intervention p id sound)
-CanBeLaid-changed p (SetCells cells) b g sound free = CanBeLaid-at p b g sound
-CanBeLaid-changed p (ReplaceStart start) b g sound free = CanBeLaid-at p b g sound
-CanBeLaid-changed p (ReplaceRule rule) b g sound free = CanBeLaid-at p b g sound
-CanBeLaid-changed p (AddBookmark n generation view) b g sound free = CanBeLaid-at p b g sound
-CanBeLaid-changed p (MoveBookmark id generation) b g sound free = CanBeLaid-at p b g sound
-CanBeLaid-changed p (RemoveBookmark id) b g sound free = CanBeLaid-at p b g sound
-CanBeLaid-changed p (AddBranch parent generation) b g sound free = CanBeLaid-at p b g sound
-CanBeLaid-changed p (RemoveBranch n) b g sound free = CanBeLaid-at p b g sound
+CanBeLaid-changed p asked b g sound free = CanBeLaid-at p b g sound
 
 -- after an edit there are no more marks than a document may have
 pub few_marks-changed : (p : Plan) (asked : Asked) → IsSound p → first_refusal (refusals p asked) ≡ None
@@ -58,9 +51,6 @@ few_marks-changed p (InsertRepeat n first every last cells) sound free =
 few_marks-changed p (ChangeRepeat id first every last cells) sound free =
     (IsSound-changed_intervention p id (Every first every last) cells sound free).few_marks
 few_marks-changed p (RemoveIntervention id) sound free = (IsSound-removed_intervention p id sound).few_marks
-few_marks-changed p (SetCells cells) sound free = sound.few_marks
-few_marks-changed p (ReplaceStart start) sound free = sound.few_marks
-few_marks-changed p (ReplaceRule rule) sound free = sound.few_marks
 few_marks-changed p (AddBookmark n generation view) sound free =
     (IsSound-bookmark p n generation view sound free).few_marks
 few_marks-changed p (MoveBookmark id generation) sound free =
@@ -69,3 +59,4 @@ few_marks-changed p (RemoveBookmark id) sound free = (IsSound-removed_bookmark p
 few_marks-changed p (AddBranch parent generation) sound free =
     (IsSound-branch p parent generation sound free).few_marks
 few_marks-changed p (RemoveBranch n) sound free = (IsSound-removed_branch p n sound free).few_marks
+few_marks-changed p asked sound free = sound.few_marks

@@ -1,5 +1,5 @@
 -- What the limits of documents say of the worlds on the way from the start.
-use Rattle.std.proofs.Common.{◌≡◌, ℕ, zero, suc, ◌+◌, ◌-◌, ◌<◌, ◌≤◌, ◌^◌, ◌==◌, Bool, true, false, List, [], ◌∷◌, subst, arith}
+use Rattle.std.proofs.Common.{◌≡◌, ℕ, zero, suc, ◌+◌, ◌-◌, ◌≤◌, ◌^◌, ◌==◌, Bool, true, false, List, [], ◌∷◌, subst, arith}
 use Rattle.std.specs.Prelude.{if◌then◌else◌}
 use Rattle.std.specs.Prelude.{All}
 use Rattle.std.specs.List.{AllByRecursion}
@@ -23,8 +23,7 @@ use Rattle.basics.proofs.Shared.Lists.{all_append}
 
 own : (P : CellSet → Type 0) (b : Bool) (cs : List CellSet) → AllByRecursion P cs
     → AllByRecursion P (if b then cs else [])
-own P true cs h = h
-own P false cs h = tt
+own P b cs h = grind arith
 
 each_at : (P : CellSet → Type 0) (n : ℕ) (is : List Intervention) (b g : ℕ)
     → ((i : Intervention) → IsAllowed n i → AllByRecursion P i.cells) → AllByRecursion (IsAllowed n) is
@@ -114,13 +113,8 @@ HasMargin-after p b g late near sound =
 laid_each : (n : ℕ) (cells : List CellSet) → n ≤ 256 → AreNamed cells → SetBelow n cells
     → AllByRecursion CanBeLaid cells
 laid_each n [] few named below = tt
-laid_each n (c ∷ cells) few named below = (
-  (
-    IsInside-less 0 (2 ^ 60) c.x c.y (omega arith) named.0,
-    (let k : c.state < n = below.0 in omega (arith, k, few)),
-  ),
-  laid_each n cells few named.1 below.1,
-)
+laid_each n (c ∷ cells) few named below =
+    grind (arith, IsInside-less 0 (2 ^ 60) c.x c.y, laid_each n cells few named.1 below.1)
 
 -- named cells of a rule's states can be laid on a plane
 pub CanBeLaid-named : (n : ℕ) (cells : List CellSet) → n ≤ 256 → AreNamed cells → SetBelow n cells

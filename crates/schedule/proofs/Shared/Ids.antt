@@ -1,14 +1,14 @@
 -- What changes of lists keep of their elements and ids.
-use Rattle.std.proofs.Common.{◌≡◌, ℕ, zero, suc, ◌+◌, ◌<◌, ◌≤◌, ◌==◌, Bool, true, false, cond, nat_lt, List, [], ◌∷◌, ◌++◌, length, map, filter, get_or, None, Some, refl, sym, ap₂, subst, arith}
+use Rattle.std.proofs.Common.{◌≡◌, ℕ, zero, suc, ◌+◌, ◌<◌, ◌≤◌, ◌==◌, Bool, true, false, cond, List, [], ◌∷◌, ◌++◌, length, map, filter, get_or, None, Some, refl, sym, subst, arith}
 use Rattle.std.specs.Prelude.{if◌then◌else◌, position, find}
 use Rattle.std.specs.Option.{option_map}
-use Rattle.std.specs.List.{AllByRecursion, list_any, position_or_len}
+use Rattle.std.specs.List.{AllByRecursion, list_any}
 use Rattle.std.proofs.Math.ListN.{set}
-use Rattle.std.proofs.lemmas.Bool.{cond-true, cond-false, or_parts}
+use Rattle.std.proofs.lemmas.Bool.{or_parts}
 use Rattle.std.proofs.lemmas.Bool.Decides.{nat_tests}
 use Rattle.std.proofs.lemmas.List.Elements.{All-get_or, All-from_recursion}
 use Rattle.std.proofs.lemmas.List.Quantifiers.{position-Some}
-use Rattle.std.proofs.lemmas.List.Sums.{length-filter, count_by-le-length, fails_before_first}
+use Rattle.std.proofs.lemmas.List.Sums.{length-filter, count_by-le-length}
 use Rattle.schedule.specs.Ids.{IdsRise, changed_at}
 use Rattle.basics.proofs.Shared.Lists.{all_append, all_so}
 
@@ -48,25 +48,14 @@ rise_map id c f (x ∷ xs) same h =
     )
 
 -- some elements left out
-each_cond : {X : Type 0} (P : X → Type 0) (b : Bool) (x : X) (xs : List X) → P x → AllByRecursion P xs
-    → AllByRecursion P (cond b (x ∷ xs) xs)
-each_cond P true x xs h k = (h, k)
-each_cond P false x xs h k = k
-
 pub each_filter : {X : Type 0} (P : X → Type 0) (c : X → Bool) (xs : List X) → AllByRecursion P xs
     → AllByRecursion P (filter c xs)
 each_filter P c [] h = tt
-each_filter P c (x ∷ xs) h = each_cond P (c x) x (filter c xs) h.0 (each_filter P c xs h.1)
-
-rise_cond : {X : Type 0} (id : X → ℕ) (b : Bool) (x : X) (xs : List X) → AllByRecursion (λ y. id x < id y) xs
-    → IdsRise id xs → IdsRise id (cond b (x ∷ xs) xs)
-rise_cond id true x xs h k = (h, k)
-rise_cond id false x xs h k = k
+each_filter P c (x ∷ xs) h = grind (arith, each_filter P c xs h.1)
 
 pub rise_filter : {X : Type 0} (id : X → ℕ) (c : X → Bool) (xs : List X) → IdsRise id xs → IdsRise id (filter c xs)
 rise_filter id c [] h = tt
-rise_filter id c (x ∷ xs) h = rise_cond id (c x) x (filter c xs) (each_filter (λ y. id x < id y) c xs h.0)
-    (rise_filter id c xs h.1)
+rise_filter id c (x ∷ xs) h = grind (arith, each_filter (λ y. id x < id y) c xs h.0, rise_filter id c xs h.1)
 
 pub length-filter_le : {X : Type 0} (c : X → Bool) (xs : List X) → length (filter c xs) ≤ length xs
 length-filter_le c xs = omega (arith, length-filter c xs, count_by-le-length c xs)
@@ -75,21 +64,17 @@ length-filter_le c xs = omega (arith, length-filter c xs, count_by-le-length c x
 same_above : {X : Type 0} (id : X → ℕ) (f : X → X) (xs : List X) (n : ℕ) → AllByRecursion (λ y. n < id y) xs
     → changed_at id f xs n ≡ xs
 same_above id f [] n h = refl
-same_above id f (x ∷ xs) n h = ap₂ (λ y ys. y ∷ ys)
-    (cond-false (id x == n) (f x) x (let k : n < id x = h.0 in grind (arith, nat_tests))) (same_above id f xs n h.1)
+same_above id f (x ∷ xs) n h = grind (arith, nat_tests, same_above id f xs n h.1)
 
 changed_at-set : {X : Type 0} (id : X → ℕ) (f : X → X) (xs : List X) (k n : ℕ) (d : X) → IdsRise id xs → k < length xs
     → id (get_or xs k d) ≡ n → set xs k (f (get_or xs k d)) ≡ changed_at id f xs n
 changed_at-set id f [] k n d rise low is = absurd (omega (arith, low))
-changed_at-set id f (x ∷ xs) zero n d rise low is =
-    ap₂ (λ y ys. y ∷ ys) (sym (cond-true (id x == n) (f x) x (grind (arith, nat_tests))))
-    (sym (same_above id f xs n (subst (λ m. AllByRecursion (λ y. m < id y) xs) is rise.0)))
+changed_at-set id f (x ∷ xs) zero n d rise low is = grind (arith, nat_tests, same_above id f xs (id x) rise.0)
 changed_at-set id f (x ∷ xs) (suc k) n d rise low is =
-    let small : k < length xs = omega (arith, low) in
-    let above : id x < id (get_or xs k d) = All-get_or (λ y. id x < id y) xs k d small
+    let above = All-get_or (λ y. id x < id y) xs k d (omega (arith, low))
     (All-from_recursion (λ y. id x < id y) xs rise.0) in
-    ap₂ (λ y ys. y ∷ ys) (sym (cond-false (id x == n) (f x) x (grind (arith, nat_tests))))
-    (changed_at-set id f xs k n d rise.1 small is)
+    let rest = changed_at-set id f xs k n d rise.1 (omega (arith, low)) is in
+    grind (arith, nat_tests, above, rest)
 
 pub changed_at-Some : {X : Type 0} (id : X → ℕ) (f : X → X) (xs : List X) (k n : ℕ) (d : X) → IdsRise id xs
     → position (λ x. id x == n) xs ≡ Some k → set xs k (f (get_or xs k d)) ≡ changed_at id f xs n
@@ -99,26 +84,10 @@ changed_at-Some id f xs k n d rise found =
     grind (arith, nat_tests))
 
 -- where no element has the id
-same_without : {X : Type 0} (id : X → ℕ) (f : X → X) (xs : List X) (n : ℕ)
-    → ((k : ℕ) (d : X) → k < length xs → (id (get_or xs k d) == n) ≡ false) → changed_at id f xs n ≡ xs
-same_without id f [] n h = refl
-same_without id f (x ∷ xs) n h = ap₂ (λ y ys. y ∷ ys) (cond-false (id x == n) (f x) x (h 0 x (omega arith)))
-    (same_without id f xs n (λ k d low. h (suc k) d (omega (arith, low))))
-
-past_all : {X : Type 0} (p : X → Bool) (xs : List X) → position p xs ≡ None → length xs ≤ position_or_len p xs
-past_all p xs h =
-    elim (nat_lt (position_or_len p xs) (length xs))
-    as (λ b. nat_lt (position_or_len p xs) (length xs) ≡ b → cond b (Some (position_or_len p xs)) None ≡ None
-    → length xs ≤ position_or_len p xs) [
-      | true ↦ λ e none. absurd (cc)
-      | false ↦ λ e none. grind (arith, nat_tests)
-    ] refl h
-
 pub changed_at-None : {X : Type 0} (id : X → ℕ) (f : X → X) (xs : List X) (n : ℕ)
     → position (λ x. id x == n) xs ≡ None → xs ≡ changed_at id f xs n
-changed_at-None id f xs n none =
-    let past = past_all (λ x. id x == n) xs none in
-    sym (same_without id f xs n (λ k d low. fails_before_first (λ x. id x == n) xs k d (omega (arith, low, past))))
+changed_at-None id f [] n none = refl
+changed_at-None id f (x ∷ xs) n none = grind (arith, changed_at-None id f xs n)
 
 -- where the element of an id is given another generation, each still stands where it may
 pub placed_at : {X : Type 0} (id branch generation : X → ℕ) (P : ℕ → ℕ → Type 0) (f : X → X) (xs : List X) (n g : ℕ)
@@ -133,11 +102,8 @@ placed_at id branch generation P f (x ∷ xs) n g stays at rise all moves =
     → (k : ℕ) → P m k → P m g) → AllByRecursion (λ y. P (branch y) (generation y))
     ((if t then f x else x) ∷ changed_at id f xs n)) [
       | true ↦ λ e moves. (
-        subst (λ b. P b (generation (f x))) (sym (stays x))
-            (subst (λ k. P (branch x) k) (sym (at x)) (moves (branch x) refl (generation x) all.0)),
-        subst (AllByRecursion (λ y. P (branch y) (generation y)))
-            (sym (same_above id f xs n (let is : id x ≡ n = grind (arith, nat_tests) in
-            subst (λ m. AllByRecursion (λ y. m < id y) xs) is rise.0))) all.1,
+        rw (stays x, at x) (moves (branch x) refl (generation x) all.0),
+        rw (same_above id f xs n (let is : id x ≡ n = grind (arith, nat_tests) in rw (sym is) rise.0)) all.1,
       )
       | false ↦ λ e moves. (all.0, placed_at id branch generation P f xs n g stays at rise.1 all.1 moves)
     ] refl moves
@@ -148,5 +114,4 @@ pub all_unnamed : {X : Type 0} (branch : X → ℕ) (P Q : X → Type 0) (xs : L
     → AllByRecursion Q xs
 all_unnamed branch P Q [] n so none all = tt
 all_unnamed branch P Q (x ∷ xs) n so none all =
-    let parts = or_parts (branch x == n) (list_any (λ y. branch y == n) xs) none in
-    (so x parts.0 all.0, all_unnamed branch P Q xs n so parts.1 all.1)
+    let parts = or_parts (branch x == n) _ none in (so x parts.0 all.0, all_unnamed branch P Q xs n so parts.1 all.1)

@@ -1,9 +1,8 @@
 -- The arrivals of documents along the lines of their branches.
-use Rattle.std.proofs.Common.{◌≡◌, ℕ, suc, ◌+◌, ◌<◌, ◌≤◌, ◌==◌, Bool, true, false, ◌&&◌, List, [], ◌∷◌, ◌++◌, map, refl, sym, ap, ap₂, ◌∙◌, subst, arith, None, Some}
-use Rattle.std.specs.Prelude.{if◌then◌else◌, ◌||◌, IfSome, flat_map}
+use Rattle.std.proofs.Common.{◌≡◌, ℕ, suc, ◌+◌, ◌<◌, ◌≤◌, ◌==◌, true, false, ◌&&◌, List, [], ◌∷◌, ◌++◌, map, refl, sym, ap, ap₂, ◌∙◌, subst, arith, None, Some}
+use Rattle.std.specs.Prelude.{if◌then◌else◌, IfSome, flat_map}
 use Rattle.std.specs.List.{AllByRecursion}
 use Rattle.std.specs.Option.{option_map_or}
-use Rattle.std.proofs.lemmas.Bool.{or_parts}
 use Rattle.std.proofs.lemmas.Bool.Decides.{nat_tests}
 use Rattle.worlds.specs.Lay.{lay}
 use Rattle.worlds.specs.Step.{step}
@@ -24,14 +23,16 @@ use Rattle.std.proofs.lemmas.Grind.{flat_map-append}
 use Rattle.worlds.specs.declared.cell.CellSet.{CellSet}
 use Rattle.schedule.specs.Ids.{branch_id}
 use Rattle.schedule.specs.Plan.{Plan}
-use Rattle.schedule.specs.Branches.{element_at, has_branch, fork_of, parent_of, has_interventions, has_bookmarks, has_children}
+use Rattle.schedule.specs.Branches.{element_at, has_branch, fork_of, parent_of}
 use Rattle.schedule.specs.History.{is_felt, arrive}
 use Rattle.schedule.specs.Scratch.{own_cells, cells_at, history_of, arrival, after}
-use Rattle.schedule.specs.Sound.{ArePlaced, IsPlaced, IsAllowed, IsSound}
+use Rattle.schedule.specs.Sound.{ArePlaced, IsPlaced, IsForked, IsAllowed, IsSound}
 use Rattle.schedule.specs.Change.{is_in_use, next_branch, with_branch, without_branch}
 use Rattle.schedule.specs.Laws.{setting, AreSinglesOf, told, arrival_alone, after_alone, IsOneLine, SameElsewhere}
-use Rattle.schedule.proofs.Shared.Branches.{parents_before, parents_there, element_at-is, element_at-added, element_at-without}
-use Rattle.schedule.proofs.Shared.Arrivals.{ParentsComeBefore, arrive-root, arrive-fork, arrive-next, arrive-undisturbed, arrive-unfelt, arrive-elsewhere, felt-earlier, unfelt_cells}
+use Rattle.schedule.proofs.Shared.Branches.{fork_of-zero, forks_rise, unused, parents_before, parents_there, element_at-is, element_at-added, element_at-without}
+use Rattle.schedule.proofs.Shared.Arrivals.{ParentsComeBefore, arrive-root, arrive-fork, arrive-undisturbed, arrive-alike, arrive-elsewhere, felt-above, felt-earlier, unfelt_cells}
+use Rattle.schedule.proofs.Shared.Felt.{felt-back}
+use Rattle.schedule.proofs.Shared.Ids.{all_unnamed}
 
 before : (p : Plan) → IsSound p → ParentsComeBefore p.branches
 before p sound = parents_before p.branches sound.branches_sound.forked
@@ -48,7 +49,9 @@ arrival-fork p sound b above = arrive-fork (history_of p) (before p sound) b abo
 -- a generation more of a branch is a step
 pub arrival-next : (p : Plan) (b g : ℕ) → fork_of p.branches b ≤ g
     → arrival p b (g + 1) ≡ step (next_of p.rule) (after p b g)
-arrival-next p b g late = arrive-next (history_of p) b g late
+unfolding iterate
+arrival-next p b g late =
+    arrive-undisturbed (history_of p) b g 0 late (λ k low high. absurd (omega (arith, low, high)))
 
 -- where nothing acts within a gap of a branch, its end is that many steps from its beginning
 pub arrival-undisturbed : (p : Plan) (b g n : ℕ) → fork_of p.branches b ≤ g
@@ -61,7 +64,25 @@ pub arrival-unfelt : (p : Plan) → IsSound p → (others : List Intervention) (
     → SameElsewhere p.interventions others c k → (b g : ℕ) → is_felt p.branches b b g c k ≡ false
     → arrival p b g ≡ arrival (record p { interventions = others }) b g
 arrival-unfelt p sound others c k same b g unfelt =
-    arrive-unfelt (history_of p) (cells_at others) c k (before p sound) same b b g unfelt
+    let forked = sound.branches_sound.forked in
+    let parents = before p sound in
+    let back : (m j : ℕ) → 0 < m → is_felt p.branches m m j c k ≡ false
+    → is_felt p.branches (parent_of p.branches m) (parent_of p.branches m) (fork_of p.branches m + 1) c k ≡ false =
+    λ m j some no.
+    (let lesser = parents m some in
+    let same = felt-back p.branches parents m j c k in
+    let above = felt-above p.branches parents (parent_of p.branches m) (parent_of p.branches m) in
+    grind (arith, nat_tests, same, above)) in
+    arrive-alike (history_of p) (cells_at others) (λ m j. is_felt p.branches m m j c k ≡ false)
+    (λ m j. is_felt p.branches m m (j + 1) c k ≡ false) parents
+    (record {
+      earlier = λ m j l low no. felt-earlier p.branches m m (l + 1) j c k (omega (arith, low)) no;
+      fork = back;
+      arrives = λ m j no. felt-earlier p.branches m m j (j + 1) c k (omega arith) no;
+    })
+    (fork_of-zero p.branches forked) (forks_rise p.branches forked)
+    (λ m j _ no. ap (λ cs. lay cs (arrival p m j)) (same m j (unfelt_cells p.branches m m j c k no))) b b g (omega arith)
+    unfelt
 
 -- nor what leaves a generation, if it isn't felt at the next
 pub after-unfelt : (p : Plan) → IsSound p → (others : List Intervention) (c k : ℕ)
@@ -82,53 +103,31 @@ arrival-added p sound parent generation b g there =
     (λ n _. parents_there p.branches branches.forked n)
     (λ n k. element_at-added p.branches x p.last_branch n branches.given (omega arith) k) b b g there
 
--- no branch leaves one that isn't in use
-unparented : (xs : List Branch) (n : ℕ) → has_children xs n ≡ false
-    → AllByRecursion (λ (x : Branch). (x.parent == n) ≡ false) xs
-unparented [] n h = tt
-unparented (x ∷ xs) n h = let parts = or_parts (x.parent == n) (has_children xs n) h in
-    (parts.0, unparented xs n parts.1)
-
 -- so does one that isn't in use, removed
 pub arrival-removed : (p : Plan) → IsSound p → (n : ℕ) → is_in_use p n ≡ false → (b g : ℕ) → (b == n) ≡ false
     → arrival p b g ≡ arrival (without_branch p n).plan b g
-arrival-removed p sound n unused b g other =
-    let halves = or_parts (n == 0 || has_interventions p.interventions n)
-    (has_bookmarks p.bookmarks n || has_children p.branches n) unused in
-    let zero = (or_parts (n == 0) (has_interventions p.interventions n) halves.0).0 in
-    let childless = (or_parts (has_bookmarks p.bookmarks n) (has_children p.branches n) halves.1).1 in
+arrival-removed p sound n free b g other =
+    let none = unused p n free in
     let back : (m : ℕ) → (parent_of p.branches m == n) ≡ false = λ m.
     elim (element_at branch_id p.branches m)
     as (λ o. IfSome o (λ (x : Branch). (x.id ≡ m) × ((x.parent == n) ≡ false))
-    → (option_map_or (λ (x : Branch). x.parent) o 0 == n) ≡ false) [
-      | None ↦ λ _. (let k : (n == 0) ≡ false = zero in grind (arith, nat_tests))
-      | Some x ↦ λ k. k.1
-    ] (element_at-is branch_id (λ (x : Branch). (x.parent == n) ≡ false) p.branches m
-    (unparented p.branches n childless)) in
+    → (option_map_or (λ (x : Branch). x.parent) o 0 == n) ≡ false)
+    [ None ↦ λ _. (let k = none.beside in grind (arith, nat_tests)) | Some x ↦ λ k. k.1 ]
+    (element_at-is branch_id (λ (x : Branch). (x.parent == n) ≡ false) p.branches m
+    (all_unnamed (λ (x : Branch). x.parent) (IsForked p.branches) _ p.branches n (λ x apart _. apart) none.children
+    sound.branches_sound.forked)) in
     arrive-elsewhere (history_of p) (without_branch p n).plan.branches (λ m. (m == n) ≡ false) (λ m _. back m)
     (λ m k. element_at-without p.branches n m k) b b g other
 
 line-append : (es fs : List (ℕ × List CellSet)) (g : ℕ)
     → line.cells_at (es ++ fs) g ≡ line.cells_at es g ++ line.cells_at fs g
 line-append [] fs g = refl
-line-append (e ∷ es) fs g =
-    elim (e.0 == g) as (λ t. (if t then e.1 ++ line.cells_at (es ++ fs) g else line.cells_at (es ++ fs) g)
-    ≡ (if t then e.1 ++ line.cells_at es g else line.cells_at es g) ++ line.cells_at fs g) [
-      | true ↦ ap (λ cs. e.1 ++ cs) (line-append es fs g)
-          ∙ sym (append_assoc e.1 (line.cells_at es g) (line.cells_at fs g))
-      | false ↦ line-append es fs g
-    ]
+line-append (e ∷ es) fs g = grind (arith, append_assoc, line-append es fs g)
 
 -- where there are no branches each intervention is one of branch 0
 own-alone : (i : Intervention) (g : ℕ) → IsTimely i.acts → IsPlaced [] i.branch (first_of i.acts)
     → own_cells i 0 g ≡ line.cells_at (told i) g
-own-alone i g timely placed =
-    let there : (i.branch == 0 || false) ≡ true = placed.there in
-    elim (i.branch == 0) as (λ t. (t || false) ≡ true
-    → (if t && acts_on i.acts g then i.cells else []) ≡ line.cells_at (told i) g) [
-      | true ↦ λ _. sym (generations-at i.acts i.cells g timely)
-      | false ↦ λ k. absurd cc
-    ] there
+own-alone i g timely placed = let own = generations-at i.acts i.cells g timely in grind (arith, own)
 
 cells_alone : (n : ℕ) (is : List Intervention) (g : ℕ) → AllByRecursion (IsAllowed n) is → ArePlaced [] is
     → cells_at is 0 g ≡ line.cells_at (flat_map told is) g
@@ -174,40 +173,22 @@ cells-laid (i ∷ is) b g =
     flat_map-cons (λ j. own_cells j b g) i is ∙ ap (λ cs. own_cells i b g ++ cs) (cells-laid is b g)
     ∙ sym (flat_map-cons (λ s. laid s b g) (setting i) (map setting is))
 
-neither : (t : Bool) → ◌≡◌ {A = List CellSet} [] (if t then [] else [])
-neither true = refl
-neither false = refl
-
 -- of the generations of a list in turn
 singles-laid : (n : ℕ) (cells : List CellSet) (gs : List ℕ) (b g : ℕ)
     → flat_map (λ s. laid s b g) (map (λ k. (Once k, n, cells)) gs)
     ≡ (if n == b then line.cells_at (map (λ k. (k, cells)) gs) g else [])
-singles-laid n cells [] b g = neither (n == b)
+singles-laid n cells [] b g = grind arith
 singles-laid n cells (k ∷ gs) b g =
-    flat_map-cons (λ s. laid s b g) (Once k, n, cells) (map (λ k. (Once k, n, cells)) gs)
-    ∙ ap (λ cs. laid (Once k, n, cells) b g ++ cs) (singles-laid n cells gs b g)
-    ∙ elim (n == b) as (λ t. (if t && k == g then cells else []) ++
-    (if t then line.cells_at (map (λ k. (k, cells)) gs) g else [])
-    ≡ (if t then (if k == g then cells ++ line.cells_at (map (λ k. (k, cells)) gs) g
-    else line.cells_at (map (λ k. (k, cells)) gs) g) else [])) [
-      | true ↦ elim (k == g) as (λ t. (if t then cells else []) ++ line.cells_at (map (λ k. (k, cells)) gs) g
-          ≡ (if t then cells ++ line.cells_at (map (λ k. (k, cells)) gs) g
-          else line.cells_at (map (λ k. (k, cells)) gs) g)) [ true ↦ refl | false ↦ refl ]
-      | false ↦ refl
-    ]
+    let first = flat_map-cons (λ s. laid s b g) (Once k, n, cells) (map (λ k. (Once k, n, cells)) gs) in
+    grind (arith, first, singles-laid n cells gs b g)
 
 own-singles : (i : Intervention) (singles : List Intervention) (b g : ℕ) → IsTimely i.acts → AreSinglesOf i singles
     → own_cells i b g ≡ cells_at singles b g
 own-singles i singles b g timely are =
-    let all : cells_at singles b g
-    ≡ (if i.branch == b then line.cells_at (map (λ k. (k, i.cells)) (generations_of i.acts)) g else []) =
-    cells-laid singles b g ∙ ap (λ ss. flat_map (λ s. laid s b g) ss) are
+    let all = cells-laid singles b g ∙ ap (λ ss. flat_map (λ s. laid s b g) ss) are
     ∙ singles-laid i.branch i.cells (generations_of i.acts) b g in
-    elim (i.branch == b) as (λ t. (if t && acts_on i.acts g then i.cells else [])
-    ≡ (if t then line.cells_at (map (λ k. (k, i.cells)) (generations_of i.acts)) g else [])) [
-      | true ↦ sym (generations-at i.acts i.cells g timely)
-      | false ↦ refl
-    ] ∙ sym all
+    let own = generations-at i.acts i.cells g timely in
+    grind (arith, all, own)
 
 -- one that repeats lays what single ones in its place lay
 pub cells-singles : (lesser : List Intervention) (i : Intervention) (greater singles : List Intervention)

@@ -1,8 +1,9 @@
 -- The greatest of a number and of what some elements of a list say.
-use Rattle.std.proofs.Common.{◌≡◌, ◌⊎◌, ℕ, ◌≤◌, ◌==◌, Bool, true, false, ◌&&◌, List, [], ◌∷◌, refl, sym, ◌∙◌, subst, inl, inr, arith}
-use Rattle.std.specs.Prelude.{if◌then◌else◌, fold, max, ◌||◌}
+use Rattle.std.proofs.Common.{◌≡◌, ◌⊎◌, ℕ, ◌≤◌, ◌==◌, Bool, true, ◌&&◌, List, [], ◌∷◌, refl, sym, ◌∙◌, subst, inl, inr, arith}
+use Rattle.std.specs.Prelude.{if◌then◌else◌, fold, max}
 use Rattle.std.specs.List.{AllByRecursion, list_any}
-use Rattle.std.proofs.lemmas.Bool.{or_left, or_right, eq-eqb, cases_order}
+use Rattle.std.proofs.lemmas.Bool.Decides.{nat_tests}
+use Rattle.std.proofs.lemmas.Bool.{or_right}
 use Rattle.schedule.specs.declared.branch.Branch.{Branch}
 use Rattle.schedule.specs.declared.document.Bookmark.{Bookmark}
 use Rattle.schedule.specs.Plan.{Plan}
@@ -11,20 +12,18 @@ use Rattle.schedule.specs.Laws.{IsMark, IsReach}
 use Rattle.basics.proofs.Shared.Lists.{all_so}
 
 -- the greatest so far, after one more element
-abbrev more : {X : Type 0} → (X → Bool) → (X → ℕ) → ℕ → X → ℕ
+abbrev pub more : {X : Type 0} → (X → Bool) → (X → ℕ) → ℕ → X → ℕ
 more c f far x = if c x then max far (f x) else far
 
 -- and after all of them
 abbrev farthest : {X : Type 0} → (X → Bool) → (X → ℕ) → ℕ → List X → ℕ
 farthest c f n xs = fold (more c f) n xs
 
-more-from : {X : Type 0} (c : X → Bool) (f : X → ℕ) (n : ℕ) (x : X) → n ≤ more c f n x
-more-from c f n x = elim (c x) as (λ t. n ≤ (if t then max n (f x) else n))
-    [ true ↦ omega arith | false ↦ omega arith ]
+pub more-from : {X : Type 0} (c : X → Bool) (f : X → ℕ) (n : ℕ) (x : X) → n ≤ more c f n x
+more-from c f n x = grind arith
 
 more-own : {X : Type 0} (c : X → Bool) (f : X → ℕ) (n : ℕ) (x : X) → c x ≡ true → f x ≤ more c f n x
-more-own c f n x h = elim (c x) as (λ t. t ≡ true → f x ≤ (if t then max n (f x) else n))
-    [ true ↦ λ _. omega arith | false ↦ λ e. absurd cc ] h
+more-own c f n x h = grind arith
 
 farthest-from : {X : Type 0} (c : X → Bool) (f : X → ℕ) (n : ℕ) (xs : List X) → n ≤ farthest c f n xs
 farthest-from c f n [] = omega arith
@@ -44,22 +43,7 @@ IsOne c f far n xs = (far ≡ n) ⊎ (list_any (λ x. c x && f x == far) xs ≡ 
 
 one-more : {X : Type 0} (c : X → Bool) (f : X → ℕ) (far n : ℕ) (x : X) (xs : List X) → far ≡ more c f n x
     → IsOne c f far n (x ∷ xs)
-one-more c f far n x xs h =
-    elim (c x) as (λ t. c x ≡ t → far ≡ (if t then max n (f x) else n)
-    → (far ≡ n) ⊎ (((t && f x == far) || list_any (λ y. c y && f y == far) xs) ≡ true)) [
-      | true ↦ λ e is.
-          elim (cases_order n (f x)) as (λ _. (far ≡ n)
-          ⊎ (((true && f x == far) || list_any (λ y. c y && f y == far) xs) ≡ true)) [
-            | inl same ↦ inl (omega (arith, is, same))
-            | inr apart ↦ elim apart as (λ _. (far ≡ n)
-                ⊎ (((true && f x == far) || list_any (λ y. c y && f y == far) xs) ≡ true)) [
-                  | inl below ↦ inr (or_left (f x == far) (list_any (λ y. c y && f y == far) xs)
-                      (eq-eqb (f x) far (omega (arith, is, below))))
-                  | inr above ↦ inl (omega (arith, is, above))
-                ]
-          ]
-      | false ↦ λ e is. inl is
-    ] refl h
+one-more c f far n x xs h = grind (arith, nat_tests)
 
 farthest-is : {X : Type 0} (c : X → Bool) (f : X → ℕ) (n : ℕ) (xs : List X) → IsOne c f (farthest c f n xs) n xs
 farthest-is c f n [] = inl refl

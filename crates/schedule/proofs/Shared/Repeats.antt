@@ -1,11 +1,12 @@
 -- How many marks repeating interventions make, where interventions, bookmarks or branches change.
-use Rattle.std.proofs.Common.{◌≡◌, ℕ, zero, suc, ◌+◌, ◌-◌, ◌/◌, ◌<◌, ◌≤◌, ◌^◌, ◌==◌, Bool, true, false, cond, not, nat_lt, List, [], ◌∷◌, ◌++◌, map, filter, refl, sym, ap, ap₂, ◌∙◌, subst, arith, Option}
+use Rattle.std.proofs.Common.{◌≡◌, ℕ, zero, suc, ◌+◌, ◌-◌, ◌/◌, ◌≤◌, ◌^◌, ◌==◌, Bool, true, false, not, nat_lt, List, [], ◌∷◌, ◌++◌, filter, refl, sym, ap, ◌∙◌, subst, arith, Option}
 use Rattle.std.specs.Prelude.{if◌then◌else◌, fold, max, min}
 use Rattle.std.specs.Option.{option_map_or}
 use Rattle.std.specs.List.{AllByRecursion, sum_by}
 use Rattle.std.proofs.Math.Nat.{div-mul-le_self, div-zero}
 use Rattle.std.proofs.lemmas.Nat.{le-div}
 use Rattle.std.proofs.lemmas.Bool.Decides.{nat_tests}
+use Rattle.std.proofs.lemmas.List.Folds.{fold-map}
 use Rattle.std.proofs.lemmas.List.Sums.{sum_by-cons, sum_by_push, fold-append}
 use Rattle.schedule.specs.declared.acts.Acts.{Acts}
 use Rattle.schedule.specs.declared.acts.Acts.TheVariants.{Once, Every}
@@ -22,7 +23,9 @@ use Rattle.schedule.specs.Plan.{Plan}
 use Rattle.schedule.specs.Repeats.{marks_within, repeat_marks, has_too_many_marks, capped_marks, capped_changed, reach_with}
 use Rattle.schedule.specs.Sound.{IsPlaced, IsSound}
 use Rattle.basics.proofs.Shared.Lists.{all_so}
+use Rattle.schedule.proofs.Each.{all_are}
 use Rattle.schedule.proofs.Shared.Branches.{element_at-added, element_at-without}
+use Rattle.schedule.proofs.Shared.Reach.{more, more-from}
 
 -- a greater number holds a multiple as often at least
 div-more : (m n k : ℕ) → m ≤ n → m / k ≤ n / k
@@ -32,17 +35,7 @@ div-more m n (suc k) h = le-div (m / suc k) n (suc k) (omega arith)
 
 count-more : (first every near far : ℕ) → near ≤ far → count_between first every near ≤ count_between first every far
 count-more first every near far h =
-    elim (nat_lt near first) as (λ t. nat_lt near first ≡ t
-    → (if t then 0 else (near - first) / every + 1) ≤ count_between first every far) [
-      | true ↦ λ e. omega arith
-      | false ↦ λ e.
-          let above : first ≤ near = grind (arith, nat_tests) in
-          elim (nat_lt far first) as (λ t. nat_lt far first ≡ t
-          → (near - first) / every + 1 ≤ (if t then 0 else (far - first) / every + 1)) [
-            | true ↦ λ k. let below : far < first = grind (arith, nat_tests) in absurd (omega (arith, below, above, h))
-            | false ↦ λ k. let l = div-more (near - first) (far - first) every (omega (arith, h)) in omega (arith, l)
-          ] refl
-    ] refl
+    let more = div-more (near - first) (far - first) every (omega (arith, h)) in grind (arith, nat_tests, more)
 
 -- a branch that reaches farther has no fewer marks
 pub marks_to-more : (acts : Acts) (near far : ℕ) → near ≤ far → marks_to near acts ≤ marks_to far acts
@@ -53,31 +46,18 @@ marks_to-more (Every first every last) near far h = count-more first every (min 
 pub sum-less : {X : Type 0} (f g : X → ℕ) (xs : List X) → AllByRecursion (λ x. f x ≤ g x) xs
     → sum_by f xs ≤ sum_by g xs
 sum-less f g [] h = omega arith
-sum-less f g (x ∷ xs) h = let l = h.0 in
-    omega (arith, sum_by-cons f x xs, sum_by-cons g x xs, l, sum-less f g xs h.1)
+sum-less f g (x ∷ xs) h = grind (arith, sum_by-cons f x xs, sum_by-cons g x xs, sum-less f g xs h.1)
 
 pub sum-same : {X : Type 0} (f g : X → ℕ) (xs : List X) → AllByRecursion (λ x. f x ≡ g x) xs
     → sum_by f xs ≡ sum_by g xs
 sum-same f g [] h = refl
-sum-same f g (x ∷ xs) h = sum_by-cons f x xs ∙ ap₂ (λ a b. a + b) h.0 (sum-same f g xs h.1)
-    ∙ sym (sum_by-cons g x xs)
-
-sum-cond : {X : Type 0} (f : X → ℕ) (b : Bool) (x : X) (xs : List X) → sum_by f (cond b (x ∷ xs) xs) ≤ f x + sum_by f xs
-sum-cond f true x xs = omega (arith, sum_by-cons f x xs)
-sum-cond f false x xs = omega arith
+sum-same f g (x ∷ xs) h = grind (arith, sum_by-cons f x xs, sum_by-cons g x xs, sum-same f g xs h.1)
 
 -- some left out
 pub sum-filter : {X : Type 0} (f : X → ℕ) (c : X → Bool) (xs : List X) → sum_by f (filter c xs) ≤ sum_by f xs
 sum-filter f c [] = omega arith
-sum-filter f c (x ∷ xs) = omega (arith, sum-cond f (c x) x (filter c xs), sum_by-cons f x xs, sum-filter f c xs)
-
--- some changed
-pub sum-changed : {X : Type 0} (f : X → ℕ) (c : X → Bool) (h : X → X) (xs : List X)
-    → sum_by f (map (λ x. if c x then h x else x) xs) ≡ sum_by (λ x. f (if c x then h x else x)) xs
-sum-changed f c h [] = refl
-sum-changed f c h (x ∷ xs) = sum_by-cons f (if c x then h x else x) (map (λ y. if c y then h y else y) xs)
-    ∙ ap (λ n. f (if c x then h x else x) + n) (sum-changed f c h xs)
-    ∙ sym (sum_by-cons (λ y. f (if c y then h y else y)) x xs)
+sum-filter f c (x ∷ xs) =
+    grind (arith, sum_by-cons f x xs, sum_by-cons f x (filter c xs), sum-filter f c xs)
 
 -- a sum that stays at 2 ^ 64 - 1 where it would be more
 pub capped : {X : Type 0} (h : ℕ → X → ℕ) (f : X → ℕ) (s : ℕ) (xs : List X) → s ≤ 2 ^ 64 - 1
@@ -114,29 +94,10 @@ capped_changed-is p id acts is =
 
 -- a number above 8,192 is one that is cut at 2 ^ 64 - 1
 over : (n s : ℕ) → s ≡ min n (2 ^ 64 - 1) → nat_lt 8192 s ≡ nat_lt 8192 n
-over n s h =
-    elim (nat_lt 8192 n) as (λ t. nat_lt 8192 n ≡ t → nat_lt 8192 s ≡ t) [
-      | true ↦ λ e.
-          let k : 8192 < n = grind (arith, nat_tests) in
-          let l : 8192 < s = omega (arith, h, k) in
-          grind (arith, nat_tests)
-      | false ↦ λ e.
-          let k : n ≤ 8192 = grind (arith, nat_tests) in
-          let l : s ≤ 8192 = omega (arith, h, k) in
-          grind (arith, nat_tests)
-    ] refl
-
--- the greatest so far, after one more element
-abbrev more : {X : Type 0} → (X → Bool) → (X → ℕ) → ℕ → X → ℕ
-more c f far x = if c x then max far (f x) else far
+over n s h = grind (arith, nat_tests)
 
 more-less : {X : Type 0} (c : X → Bool) (f : X → ℕ) (m n : ℕ) (x : X) → m ≤ n → more c f m x ≤ more c f n x
-more-less c f m n x h = elim (c x) as (λ t. (if t then max m (f x) else m) ≤ (if t then max n (f x) else n))
-    [ true ↦ omega (arith, h) | false ↦ h ]
-
-more-from : {X : Type 0} (c : X → Bool) (f : X → ℕ) (n : ℕ) (x : X) → n ≤ more c f n x
-more-from c f n x = elim (c x) as (λ t. n ≤ (if t then max n (f x) else n))
-    [ true ↦ omega arith | false ↦ omega arith ]
+more-less c f m n x h = grind arith
 
 far-less : {X : Type 0} (c : X → Bool) (f : X → ℕ) (m n : ℕ) (xs : List X) → m ≤ n
     → fold (more c f) m xs ≤ fold (more c f) n xs
@@ -148,20 +109,16 @@ far-filter : {X : Type 0} (c : X → Bool) (f : X → ℕ) (k : X → Bool) (m n
     → fold (more c f) m (filter k xs) ≤ fold (more c f) n xs
 far-filter c f k m n [] h = h
 far-filter c f k m n (x ∷ xs) h =
-    elim (k x) as (λ t. fold (more c f) m (cond t (x ∷ filter k xs) (filter k xs))
-    ≤ fold (more c f) (more c f n x) xs) [
-      | true ↦ far-filter c f k (more c f m x) (more c f n x) xs (more-less c f m n x h)
-      | false ↦ far-filter c f k m (more c f n x) xs (omega (arith, h, more-from c f n x))
-    ]
+    let kept = far-filter c f k (more c f m x) (more c f n x) xs (more-less c f m n x h) in
+    let left = far-filter c f k m (more c f n x) xs (omega (arith, h, more-from c f n x)) in
+    grind (arith, kept, left)
 
 -- the greatest of a greater number
 far-max : {X : Type 0} (c : X → Bool) (f : X → ℕ) (n g : ℕ) (xs : List X)
     → fold (more c f) (max n g) xs ≡ max (fold (more c f) n xs) g
 far-max c f n g [] = refl
 far-max c f n g (x ∷ xs) =
-    let swap : more c f (max n g) x ≡ max (more c f n x) g =
-    elim (c x) as (λ t. (if t then max (max n g) (f x) else max n g) ≡ max (if t then max n (f x) else n) g)
-    [ true ↦ omega arith | false ↦ refl ] in
+    let swap : more c f (max n g) x ≡ max (more c f n x) g = grind arith in
     ap (λ a. fold (more c f) a xs) swap ∙ far-max c f (more c f n x) g xs
 
 -- a branch reaches no less far with a bookmark more
@@ -213,10 +170,6 @@ reach-unforked p m n other =
     (farthest_fork (without branch_id p.branches m) n (fork_of (without branch_id p.branches m) n))
     (farthest_fork p.branches n fork) p.bookmarks less
 
-each-same : {X : Type 0} (f g : X → ℕ) (xs : List X) → ((x : X) → f x ≡ g x) → AllByRecursion (λ x. f x ≡ g x) xs
-each-same f g [] h = tt
-each-same f g (x ∷ xs) h = (h x, each-same f g xs h)
-
 -- whether there are too many marks with an intervention more
 pub over-inserted : (p : Plan) (b : ℕ) (acts : Acts) (cells : List CellSet) (marks far sum : ℕ)
     → marks ≡ capped_marks (reach_with p b 0) p.interventions → far ≡ reach p b
@@ -226,11 +179,8 @@ unfolding has_too_many_marks
 over-inserted p b acts cells marks far sum h is whole =
     let f : Intervention → ℕ = λ i. marks_to (reach_with p b 0 i.branch) i.acts in
     let g : Intervention → ℕ = λ i. marks_to (reach p i.branch) i.acts in
-    let stays : (n : ℕ) → reach_with p b 0 n ≡ reach p n = λ n.
-    elim (b == n) as (λ t. (if t then max (reach p n) 0 else reach p n) ≡ reach p n)
-    [ true ↦ omega arith | false ↦ refl ] in
-    let same : sum_by f p.interventions ≡ sum_by g p.interventions =
-    sum-same f g p.interventions (each-same f g p.interventions (λ i. ap (λ n. marks_to n i.acts) (stays i.branch))) in
+    let stays : (i : Intervention) → f i ≡ g i = λ i. grind arith in
+    let same = sum-same f g p.interventions (all_are (λ (i : Intervention). f i ≡ g i) p.interventions stays) in
     let cut : marks ≡ min (sum_by f p.interventions) (2 ^ 64 - 1) = h ∙ capped_marks-is (reach_with p b 0)
     p.interventions in
     let own : marks_to far acts ≡ marks_to (reach p b) acts = ap (λ n. marks_to n acts) is in
@@ -245,17 +195,11 @@ pub over-changed : (p : Plan) (id : ℕ) (acts : Acts) (cells : List CellSet) (m
     → nat_lt 8192 marks ≡ has_too_many_marks (with_changed_intervention p id acts cells).plan
 unfolding has_too_many_marks
 over-changed p id acts cells marks h =
-    let f : Intervention → ℕ = λ i. marks_to (reach p i.branch) i.acts in
-    let c : Intervention → Bool = λ i. i.id == id in
-    let own : (i : Intervention) → marks_to (reach p i.branch) (if i.id == id then acts else i.acts)
-    ≡ f (if c i then acting acts cells i else i) = λ i.
-    elim (i.id == id) as (λ t. marks_to (reach p i.branch) (if t then acts else i.acts)
-    ≡ f (if t then acting acts cells i else i)) [ true ↦ refl | false ↦ refl ] in
-    let all = sum-same (λ i. marks_to (reach p i.branch) (if i.id == id then acts else i.acts))
-    (λ i. f (if c i then acting acts cells i else i)) p.interventions
-    (each-same (λ (i : Intervention). marks_to (reach p i.branch) (if i.id == id then acts else i.acts))
-    (λ i. f (if c i then acting acts cells i else i)) p.interventions own)
-    ∙ sym (sum-changed f c (acting acts cells) p.interventions) in
+    let f : Intervention → ℕ = λ i. marks_to (reach p i.branch) (if i.id == id then acts else i.acts) in
+    let own : Intervention → Intervention = λ i. if i.id == id then acting acts cells i else i in
+    let g : Intervention → ℕ = λ i. marks_to (reach p (own i).branch) (own i).acts in
+    let all = sum-same f g p.interventions (all_are (λ (i : Intervention). f i ≡ g i) p.interventions (λ i. grind arith))
+    ∙ sym (fold-map (λ s (i : Intervention). s + marks_to (reach p i.branch) i.acts) own 0 p.interventions) in
     over (repeat_marks (with_changed_intervention p id acts cells).plan) marks
     (h ∙ capped_changed-is p id acts p.interventions ∙ ap (λ n. min n (2 ^ 64 - 1)) all)
 
@@ -268,7 +212,7 @@ over-marked p b g view marks h =
     let q : Plan = (changed_bookmarks p b g view).plan in
     let f : Intervention → ℕ = λ i. marks_to (reach_with p b g i.branch) i.acts in
     let k : Intervention → ℕ = λ i. marks_to (reach q i.branch) i.acts in
-    let all = sum-same f k p.interventions (each-same f k p.interventions
+    let all = sum-same f k p.interventions (all_are (λ (i : Intervention). f i ≡ k i) p.interventions
     (λ i. ap (λ n. marks_to n i.acts) (sym (reach-marked p b g view i.branch)))) in
     over (repeat_marks q) marks
     (h ∙ capped_marks-is (reach_with p b g) p.interventions ∙ ap (λ n. min n (2 ^ 64 - 1)) all)

@@ -1,13 +1,9 @@
-use Rattle.std.proofs.Common.{◌≡◌, ℕ, ◌+◌, ◌∷◌, sym, ap, ◌∙◌, arith, Some}
-use Rattle.schedule.specs.Generations.{from_next}
+use Rattle.std.proofs.Common.{arith}
 use Rattle.schedule.proofs.Coming.{one-more, no-more}
 use Rattle.schedule.proofs.generations.after.Goals as goal
 
 pub returns-in-Some-clause-rest : goal.returns-in-Some-clause-rest
-returns-in-Some-clause-rest c =
-    let next : c.in-Some.next ≡ c.args.generation + c.args.every = c.in-Some.ensures.1 in
-    one-more c.args.generation c.args.every c.args.most c.if-every-gt0.true (omega (arith, next))
-    ∙ ap (λ (n : ℕ). c.args.generation ∷ from_next c.args.every c.args.most (Some n)) (sym next)
+returns-in-Some-clause-rest c = grind (arith, one-more c.args.generation c.args.every c.args.most)
 
 pub returns-in_default-clause-rest : goal.returns-in_default-clause-rest
 returns-in_default-clause-rest c =
