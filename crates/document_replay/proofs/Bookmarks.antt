@@ -1,24 +1,23 @@
 -- The edits that add the bookmarks of a document, or skip ids, aren't refused.
-use Rattle.std.proofs.Common.{◌≡◌, ℕ, ◌+◌, ◌<◌, ◌≤◌, ◌^◌, not, List, [], ◌∷◌, ◌++◌, length, nat_lt, refl, sym, ap, ap₂, arith, None}
+use Rattle.std.proofs.Common.{◌≡◌, ℕ, ◌+◌, ◌<◌, ◌≤◌, ◌^◌, List, [], ◌∷◌, ◌++◌, refl, sym, ap, ap₂, arith, None}
 use Rattle.std.specs.List.{AllByRecursion}
+use Rattle.std.proofs.lemmas.Bool.Decides.{nat_tests}
 use Rattle.basics.proofs.Shared.Lists.{all_so}
 use Rattle.bookmarks.specs.declared.view.View.{View}
 use Rattle.bookmarks.specs.declared.view.View.TheVariants.{Counts}
 use Rattle.bookmarks.specs.Within.{IsWithin}
 use Rattle.schedule.specs.declared.document.Bookmark.{Bookmark}
 use Rattle.schedule.specs.Asked.{AddBookmark, RemoveBookmark}
-use Rattle.schedule.specs.Branches.{fork_of}
 use Rattle.schedule.specs.Change.{changed_bookmarks, next_bookmark, refusal}
-use Rattle.schedule.specs.Ids.{bookmark_id, branch_id, without}
+use Rattle.schedule.specs.Ids.{bookmark_id, branch_id}
 use Rattle.schedule.specs.Plan.{Plan}
 use Rattle.schedule.specs.Repeats.{repeat_marks}
 use Rattle.schedule.specs.Sound.{IsPlaced, IsSound}
 use Rattle.schedule.proofs.Shared.Branches.{fork_of-zero}
 use Rattle.document_replay.specs.Law.{Lead, last_id}
 use Rattle.document_replay.specs.Replay.{add_bookmark, skip_bookmark}
-use Rattle.document_replay.proofs.Branches.{with_branches}
+use Rattle.document_replay.proofs.Branches.{few_marks, with_branches}
 use Rattle.document_replay.proofs.Elements.{at_cut, fewer_before, there_last, without_last}
-use Rattle.document_replay.proofs.Tests.{few_marks, not_less, not_most, pass, unspent}
 use Rattle.document_replay.proofs.Shared.Leading.{Adds}
 
 -- the document with rule, start and branches, and these bookmarks
@@ -37,20 +36,15 @@ add_one : (p : Plan) → IsSound p → (done : List Bookmark) (x : Bookmark) (re
     → Lead (add_bookmark x ∷ []) (with_bookmarks p k done last) (with_bookmarks p (k + 1) (done ++ x ∷ []) x.id)
 add_one p sound done x rest k last is next left =
     let q : Plan = with_bookmarks p k done last in
-    let near : x.generation ≤ 2 ^ 60 =
-    at_cut (λ (y : Bookmark). y.generation ≤ 2 ^ 60) p.bookmarks done x rest is sound.bookmarks_near in
-    let within : IsWithin x.view =
-    at_cut (λ (y : Bookmark). IsWithin y.view) p.bookmarks done x rest is sound.views_within in
+    let near : x.generation ≤ 2 ^ 60 = at_cut _ p.bookmarks done x rest is sound.bookmarks_near in
+    let within : IsWithin x.view = at_cut _ p.bookmarks done x rest is sound.views_within in
     let placed : IsPlaced p.branches x.branch x.generation =
-    at_cut (λ (y : Bookmark). IsPlaced p.branches y.branch y.generation) p.bookmarks done x rest is
-    sound.branches_sound.bookmarks_placed in
+    at_cut _ p.bookmarks done x rest is sound.branches_sound.bookmarks_placed in
+    let few = fewer_before p.bookmarks done x rest 4096 is sound.few_bookmarks in
+    let marks = few_marks (changed_bookmarks q x.branch x.generation x.view).plan
+    (no_marks p k done last x.branch x.generation x.view) in
     let free : refusal q (AddBookmark x.branch x.generation x.view) ≡ None =
-    pass _ (ap not placed.there) (pass _ (not_less (2 ^ 60) x.generation near)
-    (pass _ (not_less x.generation (fork_of p.branches x.branch) placed.from_fork)
-    (pass _ (not_most 4096 (length done) (fewer_before p.bookmarks done x rest 4096 is sound.few_bookmarks))
-    (pass _ (ap not within.0) (pass _ (ap not within.1)
-    (pass _ (few_marks (changed_bookmarks q x.branch x.generation x.view).plan
-    (no_marks p k done last x.branch x.generation x.view)) (pass _ (unspent k left) refl))))))) in
+    grind (arith, nat_tests, placed.there, placed.from_fork, near, within.0, within.1, few, marks) in
     (free, ap (λ n. with_bookmarks p (k + 1) (done ++ (record x { id = n }) ∷ []) n) (sym next))
 
 skip_one : (p : Plan) → IsSound p → (done : List Bookmark) (x : Bookmark) (rest : List Bookmark) (k last : ℕ)
@@ -62,17 +56,13 @@ skip_one p sound done x rest k last is gap given left =
     let y : Bookmark = next_bookmark q 0 0 Counts in
     let more : List Bookmark = done ++ y ∷ [] in
     let r : Plan = with_bookmarks p (k + 1) more (last + 1) in
-    let lower : AllByRecursion (λ (z : Bookmark). z.id < last + 1) done =
-    all_so (λ (z : Bookmark). z.id ≤ last) (λ (z : Bookmark). z.id < last + 1) done (λ z h. omega (arith, h)) given in
-    let kept : without bookmark_id more (last + 1) ≡ done = without_last bookmark_id done y (last + 1) lower refl in
-    let free : refusal q (AddBookmark 0 0 Counts) ≡ None =
-    pass _ (ap (λ n. nat_lt 0 n) (fork_of-zero p.branches sound.branches_sound.forked))
-    (pass _ (not_most 4096 (length done) (fewer_before p.bookmarks done x rest 4096 is sound.few_bookmarks))
-    (pass _ (few_marks (changed_bookmarks q 0 0 Counts).plan (no_marks p k done last 0 0 Counts))
-    (pass _ (unspent k (omega (arith, left))) refl))) in
-    let gone : refusal r (RemoveBookmark (last + 1)) ≡ None =
-    pass _ (ap not (there_last bookmark_id done y (last + 1) refl))
-    (pass _ (unspent (k + 1) (omega (arith, left))) refl) in
+    let kept = without_last bookmark_id done y (last + 1) (all_so _ _ done (λ z h. omega (arith, h)) given) refl in
+    let root = fork_of-zero p.branches sound.branches_sound.forked in
+    let few = fewer_before p.bookmarks done x rest 4096 is sound.few_bookmarks in
+    let marks = few_marks (changed_bookmarks q 0 0 Counts).plan (no_marks p k done last 0 0 Counts) in
+    let free : refusal q (AddBookmark 0 0 Counts) ≡ None = grind (arith, nat_tests, root, few, marks) in
+    let there = there_last bookmark_id done y (last + 1) refl in
+    let gone : refusal r (RemoveBookmark (last + 1)) ≡ None = grind (arith, nat_tests, there) in
     (free, (gone, ap₂ (λ a bs. with_bookmarks p a bs (last + 1)) (omega arith) (sym kept)))
 
 pub bookmarks_added : (p : Plan) → IsSound p

@@ -1,23 +1,27 @@
 -- The edits that add the branches of a document, or skip ids, aren't refused.
-use Rattle.std.proofs.Common.{◌≡◌, ℕ, ◌+◌, ◌<◌, ◌≤◌, ◌^◌, false, not, List, [], ◌∷◌, ◌++◌, length, nat_lt, refl, sym, ap, ap₂, ◌∙◌, subst, arith, None, Option, true}
-use Rattle.std.specs.Prelude.{◌==◌, ◌||◌}
-use Rattle.std.specs.Option.{option_map_or}
+use Rattle.std.proofs.Common.{◌≡◌, ℕ, ◌+◌, ◌<◌, ◌≤◌, ◌^◌, false, List, [], ◌∷◌, ◌++◌, length, refl, sym, ap, ap₂, subst, arith, None, true}
+use Rattle.std.specs.Prelude.{◌==◌}
 use Rattle.std.specs.List.{AllByRecursion}
+use Rattle.std.proofs.lemmas.Bool.Decides.{nat_tests}
 use Rattle.basics.proofs.Shared.Lists.{all_append, all_so}
 use Rattle.schedule.specs.declared.branch.Branch.{Branch}
 use Rattle.schedule.specs.Asked.{AddBranch, RemoveBranch}
 use Rattle.schedule.specs.Branches.{fork_of, has_branch, has_children}
 use Rattle.schedule.specs.Change.{is_in_use, next_branch, refusal, with_branch}
-use Rattle.schedule.specs.Ids.{IdsRise, branch_id, without}
+use Rattle.schedule.specs.Ids.{IdsRise, branch_id}
 use Rattle.schedule.specs.Plan.{Plan}
-use Rattle.schedule.specs.Repeats.{repeat_marks}
+use Rattle.schedule.specs.Repeats.{repeat_marks, has_too_many_marks}
 use Rattle.schedule.specs.Sound.{IsForked, IsPlaced, IsSound}
 use Rattle.schedule.proofs.Shared.Branches.{fork_of-zero}
 use Rattle.document_replay.specs.Law.{Lead, bare}
 use Rattle.document_replay.specs.Replay.{add_branch, skip_branch}
-use Rattle.document_replay.proofs.Elements.{all_both, all_parts, fewer_before, found_before, none_any, or_true, rise_parts, there_before, there_last, without_last}
-use Rattle.document_replay.proofs.Tests.{apart, apart_above, few_marks, neither, not_less, not_most, pass, unspent}
+use Rattle.document_replay.proofs.Elements.{all_both, all_parts, fewer_before, found_before, none_any, rise_parts, there_before, there_last, without_last}
 use Rattle.document_replay.proofs.Shared.Leading.{Adds}
+
+-- no more marks than there may be
+pub few_marks : (p : Plan) → repeat_marks p ≤ 8192 → has_too_many_marks p ≡ false
+unfolding has_too_many_marks
+few_marks p h = grind (arith, nat_tests)
 
 -- the document with rule and start, and these branches
 abbrev pub with_branches : Plan → ℕ → List Branch → ℕ → Plan
@@ -26,9 +30,8 @@ with_branches p k done last = record (bare k p) { branches = done; last_branch =
 placed_before : (done rest : List Branch) (b g : ℕ) → AllByRecursion (λ (y : Branch). b < y.id) rest
     → IsPlaced (done ++ rest) b g → IsPlaced done b g
 placed_before done rest b g above h = record {
-  there = sym (ap (λ t. b == 0 || t) (there_before branch_id done rest b above)) ∙ h.there;
-  from_fork = subst (λ (o : Option Branch). option_map_or (λ (x : Branch). x.fork) o 0 ≤ g)
-      (found_before branch_id done rest b above) h.from_fork;
+  there = rw (← there_before branch_id done rest b above) h.there;
+  from_fork = rw (← found_before branch_id done rest b above) h.from_fork;
 }
 
 -- where the list is cut
@@ -66,15 +69,13 @@ add_one p sound done x rest k last is next left =
     let here = parts.here in
     let lower : x.parent < x.id = here.later in
     let above : AllByRecursion (λ (y : Branch). x.parent < y.id) rest =
-    all_so (λ (y : Branch). x.id < y.id) (λ (y : Branch). x.parent < y.id) rest (λ y h. omega (arith, h, lower))
-    parts.later in
+    all_so _ _ rest (λ y h. omega (arith, h, lower)) parts.later in
     let placed = placed_before done (x ∷ rest) x.parent x.fork (lower, above)
     (subst (λ bs. IsPlaced bs x.parent x.fork) (sym is) here.placed) in
+    let few = parts.few in
+    let marks = few_marks (with_branch q x.parent x.fork).plan (no_marks p k done last x.parent x.fork) in
     let free : refusal q (AddBranch x.parent x.fork) ≡ None =
-    pass _ (ap not placed.there) (pass _ (not_less (2 ^ 60) x.fork here.near)
-    (pass _ (not_less x.fork (fork_of done x.parent) placed.from_fork) (pass _ (not_most 64 (length done) parts.few)
-    (pass _ (few_marks (with_branch q x.parent x.fork).plan (no_marks p k done last x.parent x.fork))
-    (pass _ (unspent k left) refl))))) in
+    grind (arith, nat_tests, placed.there, placed.from_fork, here.near, few, marks) in
     (free, ap (λ n. with_branches p (k + 1) (done ++ (record x { id = n }) ∷ []) n) (sym next))
 
 skip_one : (p : Plan) → IsSound p → (done : List Branch) (x : Branch) (rest : List Branch) (k last : ℕ)
@@ -88,33 +89,23 @@ skip_one p sound done x rest k last is gap given left =
     let more : List Branch = done ++ y ∷ [] in
     let r : Plan = with_branches p (k + 1) more (last + 1) in
     let behind : AllByRecursion (λ (z : Branch). 0 < z.id) rest =
-    all_so (IsForked p.branches) (λ (z : Branch). 0 < z.id) rest (λ z h. (let l = h.later in omega (arith, l)))
-    parts.behind in
-    let positive : AllByRecursion (λ (z : Branch). 0 < z.id) (x ∷ rest) = (omega (arith, gap), behind) in
-    let first : fork_of done 0 ≡ 0 =
-    ap (λ (o : Option Branch). option_map_or (λ (z : Branch). z.fork) o 0)
-    (sym (found_before branch_id done (x ∷ rest) 0 positive))
-    ∙ ap (λ bs. fork_of bs 0) is ∙ fork_of-zero p.branches sound.branches_sound.forked in
+    all_so _ _ rest (λ z h. (let l = h.later in omega (arith, l))) parts.behind in
+    let found = found_before branch_id done (x ∷ rest) 0 (omega (arith, gap), behind) in
+    let root = fork_of-zero p.branches sound.branches_sound.forked in
+    let first : fork_of done 0 ≡ 0 = rw (← found, is) root in
     let childless : has_children more (last + 1) ≡ false =
-    none_any (λ (z : Branch). z.parent == last + 1) more
-    (all_append (λ (z : Branch). (z.parent == last + 1) ≡ false) done (y ∷ [])
-    (all_both (IsForked p.branches) (λ (z : Branch). z.id ≤ last) (λ (z : Branch). (z.parent == last + 1) ≡ false)
-    done (λ z h k. (let l = h.later in apart z.parent (last + 1) (omega (arith, l, k)))) parts.before given)
-    (apart 0 (last + 1) (omega arith), tt)) in
-    let lower : AllByRecursion (λ (z : Branch). z.id < last + 1) done =
-    all_so (λ (z : Branch). z.id ≤ last) (λ (z : Branch). z.id < last + 1) done (λ z h. omega (arith, h)) given in
-    let kept : without branch_id more (last + 1) ≡ done = without_last branch_id done y (last + 1) lower refl in
-    let free : refusal q (AddBranch 0 0) ≡ None =
-    pass _ (ap (λ n. nat_lt 0 n) first) (pass _ (not_most 64 (length done) parts.few)
-    (pass _ (few_marks (with_branch q 0 0).plan (no_marks p k done last 0 0))
-    (pass _ (unspent k (omega (arith, left))) refl))) in
-    let there : has_branch more (last + 1) ≡ true =
-    ap (λ t. last + 1 == 0 || t) (there_last branch_id done y (last + 1) refl) ∙ or_true (last + 1 == 0) in
-    let unused : is_in_use r (last + 1) ≡ false =
-    neither (last + 1 == 0 || false) (false || has_children more (last + 1))
-    (neither (last + 1 == 0) false (apart_above (last + 1) 0 (omega arith)) refl) childless in
-    let gone : refusal r (RemoveBranch (last + 1)) ≡ None =
-    pass _ (ap not there) (pass _ unused (pass _ (unspent (k + 1) (omega (arith, left))) refl)) in
+    none_any (λ (z : Branch). z.parent == last + 1) more (all_append _ done (y ∷ [])
+    (all_both (IsForked p.branches) (λ (z : Branch). z.id ≤ last) _ done
+    (λ z h k. (let l = h.later in grind (arith, nat_tests, l, k))) parts.before given)
+    (grind (arith, nat_tests), tt)) in
+    let kept = without_last branch_id done y (last + 1) (all_so _ _ done (λ z h. omega (arith, h)) given) refl in
+    let few = parts.few in
+    let marks = few_marks (with_branch q 0 0).plan (no_marks p k done last 0 0) in
+    let free : refusal q (AddBranch 0 0) ≡ None = grind (arith, nat_tests, first, few, marks) in
+    let last_there = there_last branch_id done y (last + 1) refl in
+    let there : has_branch more (last + 1) ≡ true = grind (arith, last_there) in
+    let unused : is_in_use r (last + 1) ≡ false = grind (arith, nat_tests, childless) in
+    let gone : refusal r (RemoveBranch (last + 1)) ≡ None = grind (arith, nat_tests, there, unused) in
     (free, (gone, ap₂ (λ a bs. with_branches p a bs (last + 1)) (omega arith) (sym kept)))
 
 pub branches_added : (p : Plan) → IsSound p → Adds branch_id skip_branch add_branch (with_branches p) p.branches

@@ -1,5 +1,4 @@
 pub mod Example
-pub mod Tests
 pub mod Elements
 pub mod Shared
 pub mod Branches

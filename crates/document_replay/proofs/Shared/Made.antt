@@ -1,10 +1,8 @@
 -- What holds of every document that edits made of an opening one.
-use Rattle.std.proofs.Common.{◌≡◌, ℕ, ◌+◌, ◌*◌, ◌<◌, ◌≤◌, Bool, true, false, not, List, [], ◌∷◌, ◌++◌, length, nat_le, nat_lt, refl, sym, subst, arith, Option, None, Some, length-append}
-use Rattle.std.specs.Prelude.{if◌then◌else◌, ◌==◌, is_none}
+use Rattle.std.proofs.Common.{◌≡◌, ℕ, ◌+◌, ◌*◌, ◌<◌, ◌≤◌, Bool, not, List, [], ◌∷◌, ◌++◌, length, refl, sym, subst, arith, None, length-append}
+use Rattle.std.specs.Prelude.{if◌then◌else◌, ◌==◌}
 use Rattle.std.specs.List.{AllByRecursion}
-use Rattle.std.specs.Option.{unwrap_or}
 use Rattle.std.proofs.lemmas.List.{length-map}
-use Rattle.std.proofs.lemmas.Bool.{ltb-false}
 use Rattle.basics.proofs.Shared.Lists.{all_append}
 use Rattle.worlds.specs.declared.cell.CellSet.{CellSet}
 use Rattle.worlds.specs.Lay.{lay}
@@ -12,9 +10,6 @@ use Rattle.worlds.specs.World.{World}
 use Rattle.rule_tree.specs.declared.rule.Rule.{Rule}
 use Rattle.schedule.specs.declared.acts.Acts.{Acts}
 use Rattle.schedule.specs.declared.acts.Acts.TheVariants.{Once, Every}
-use Rattle.schedule.specs.declared.fault.EditFault.{EditFault}
-use Rattle.schedule.specs.Acts.{first_of}
-use Rattle.schedule.specs.Branches.{has_branch, intervention_branch}
 use Rattle.schedule.specs.declared.document.Intervention.{Intervention}
 use Rattle.schedule.specs.declared.document.Bookmark.{Bookmark}
 use Rattle.schedule.specs.declared.branch.Branch.{Branch}
@@ -22,12 +17,11 @@ use Rattle.schedule.specs.Asked.{Asked, InsertIntervention, ChangeIntervention, 
 use Rattle.schedule.specs.Asked.{RemoveIntervention, SetCells, ReplaceStart, ReplaceRule, AddBookmark, MoveBookmark}
 use Rattle.schedule.specs.Asked.{RemoveBookmark, AddBranch, RemoveBranch}
 use Rattle.schedule.specs.Change.{acting, changed, marking, next_bookmark, next_branch, next_intervention, refusal, revised}
-use Rattle.schedule.specs.Change.{with_changed_intervention, with_intervention, acts_too_far, first_refusal}
-use Rattle.schedule.specs.Change.{for_cells_before, for_changed, for_changed_intervention, for_inserted}
-use Rattle.schedule.specs.Change.{for_intervention, is_bad_repeat, is_before_fork}
+use Rattle.schedule.specs.Change.{with_changed_intervention, with_intervention}
 use Rattle.schedule.specs.Ids.{IdsRise, bookmark_id, branch_id, changed_at, intervention_id, without}
 use Rattle.schedule.specs.Plan.{Plan, opening}
 use Rattle.schedule.proofs.Shared.Ids.{each_filter, each_map, given_push, rise_filter, rise_map, rise_push}
+use Rattle.schedule.proofs.Unrefused.{fit_change, fit_insertion}
 use Rattle.document_replay.specs.Law.{DocumentsAreMadeAnew, EditsMakeDocuments, IsMade, Lead, last_id}
 use Rattle.document_replay.specs.Replay.{add_bookmark, add_branch, add_intervention, row_edits, skip_bookmark, skip_branch, skip_intervention}
 use Rattle.document_replay.proofs.Elements.{length-without}
@@ -44,27 +38,23 @@ pub record AreNumbered {X : Type 0} (id : X → ℕ) (xs : List X) (last : ℕ) 
 
 numbered_push : {X : Type 0} (id : X → ℕ) (xs : List X) (x : X) (last : ℕ) → AreNumbered id xs last → id x ≡ last + 1
     → AreNumbered id (xs ++ x ∷ []) (last + 1)
-numbered_push id xs x last h next = record {
-  from_one = all_append (λ y. 0 < id y) xs (x ∷ []) h.from_one (omega (arith, next), tt);
-  given = given_push id xs x last h.given next;
-  rise = rise_push id xs x last h.rise h.given (omega (arith, next));
-}
+numbered_push id xs x last h next =
+    grind (arith, all_append (λ y. 0 < id y) xs (x ∷ []), given_push id xs x last, rise_push id xs x last)
 
 numbered_changed : {X : Type 0} (id : X → ℕ) (f : X → X) (xs : List X) (n last : ℕ) → ((x : X) → id (f x) ≡ id x)
     → AreNumbered id xs last → AreNumbered id (changed_at id f xs n) last
-numbered_changed id f xs n last same h = record {
-  from_one = each_map (λ x. 0 < id x) (λ x. id x == n) f xs (λ x k. let e = same x in omega (arith, e, k)) h.from_one;
-  given = each_map (λ x. id x ≤ last) (λ x. id x == n) f xs (λ x k. let e = same x in omega (arith, e, k)) h.given;
-  rise = rise_map id (λ x. id x == n) f xs same h.rise;
-}
+numbered_changed id f xs n last same h = grind (
+  arith,
+  each_map (λ x. 0 < id x) (λ x. id x == n) f xs (λ x k. let e = same x in omega (arith, e, k)),
+  each_map (λ x. id x ≤ last) (λ x. id x == n) f xs (λ x k. let e = same x in omega (arith, e, k)),
+  rise_map id (λ x. id x == n) f xs same,
+)
 
 numbered_without : {X : Type 0} (id : X → ℕ) (xs : List X) (n last : ℕ) → AreNumbered id xs last
     → AreNumbered id (without id xs n) last
-numbered_without id xs n last h = record {
-  from_one = each_filter (λ x. 0 < id x) (λ x. not (id x == n)) xs h.from_one;
-  given = each_filter (λ x. id x ≤ last) (λ x. not (id x == n)) xs h.given;
-  rise = rise_filter id (λ x. not (id x == n)) xs h.rise;
-}
+numbered_without {X} id xs n last h =
+    let c : X → Bool = λ x. not (id x == n) in
+    grind (arith, each_filter (λ x. 0 < id x) c xs, each_filter (λ x. id x ≤ last) c xs, rise_filter id c xs)
 
 -- interventions of few cells
 abbrev pub AreSmall : List Intervention → Type 0
@@ -88,45 +78,7 @@ pub record IsNumbered (p : Plan) : Type 0 where
   pub spent : 2 * ids_given p ≤ p.revision + elements p
 
 pub numbered_opening : (revision : ℕ) → IsNumbered (opening revision)
-numbered_opening revision = record {
-  interventions = record { from_one = tt; given = tt; rise = tt };
-  bookmarks = record { from_one = tt; given = tt; rise = tt };
-  branches = record { from_one = tt; given = tt; rise = tt };
-  small = tt;
-  spent = omega arith;
-}
-
--- what isn't refused
-passed : (b : Bool) (fault : EditFault) (rest : Option EditFault) → (if b then Some fault else rest) ≡ None
-    → (b ≡ false) × (rest ≡ None)
-passed true fault rest h = absurd cc
-passed false fault rest h = (refl, h)
-
-few_cells : (p : Plan) (cells : List CellSet) (rest : List (Bool × EditFault))
-    → first_refusal (for_cells_before p cells rest) ≡ None → length cells ≤ 10000
-few_cells p cells rest h = ltb-false 10000 (length cells) (passed (nat_lt 10000 (length cells)) _ _ h).0
-
--- an inserted intervention sets few cells
-few_inserted : (p : Plan) (b : ℕ) (acts : Acts) (cells : List CellSet)
-    → first_refusal (for_intervention p b acts cells) ≡ None → length cells ≤ 10000
-few_inserted p b acts cells h =
-    let there = passed (not (has_branch p.branches b)) _ _ h in
-    let far = passed (acts_too_far acts) _ _ there.1 in
-    let bad = passed (is_bad_repeat acts) _ _ far.1 in
-    let late = passed (is_before_fork p b (first_of acts)) _ _ bad.1 in
-    let many = passed (nat_le 4096 (length p.interventions)) _ _ late.1 in
-    few_cells p cells (for_inserted p b acts cells) many.1
-
--- so does a changed one
-few_changed : (p : Plan) (id : ℕ) (acts : Acts) (cells : List CellSet)
-    → first_refusal (for_changed_intervention p id acts cells) ≡ None → length cells ≤ 10000
-few_changed p id acts cells h =
-    let b = intervention_branch p.interventions id in
-    let there = passed (is_none b) _ _ h in
-    let far = passed (acts_too_far acts) _ _ there.1 in
-    let bad = passed (is_bad_repeat acts) _ _ far.1 in
-    let late = passed (is_before_fork p (unwrap_or b 0) (first_of acts)) _ _ bad.1 in
-    few_cells p cells (for_changed p id acts cells) late.1
+numbered_opening revision = grind arith
 
 -- other lists of elements, where one that is gone or an id more takes a revision
 
@@ -134,45 +86,21 @@ numbered_interventions : (p : Plan) (is : List Intervention) (last : ℕ) → Is
     → AreNumbered intervention_id is last → AreSmall is
     → 2 * last + length p.interventions ≤ 2 * p.last_intervention + length is + 1
     → IsNumbered (record (revised p) { interventions = is; last_intervention = last })
-numbered_interventions p is last h listed small few = let spent = h.spent in record {
-  interventions = listed;
-  bookmarks = h.bookmarks;
-  branches = h.branches;
-  small = small;
-  spent = omega (arith, spent, few);
-}
+numbered_interventions p is last h listed small few = grind arith
 
 numbered_bookmarks : (p : Plan) (bs : List Bookmark) (last : ℕ) → IsNumbered p → AreNumbered bookmark_id bs last
     → 2 * last + length p.bookmarks ≤ 2 * p.last_bookmark + length bs + 1
     → IsNumbered (record (revised p) { bookmarks = bs; last_bookmark = last })
-numbered_bookmarks p bs last h listed few = let spent = h.spent in record {
-  interventions = h.interventions;
-  bookmarks = listed;
-  branches = h.branches;
-  small = h.small;
-  spent = omega (arith, spent, few);
-}
+numbered_bookmarks p bs last h listed few = grind arith
 
 numbered_branches : (p : Plan) (xs : List Branch) (last : ℕ) → IsNumbered p → AreNumbered branch_id xs last
     → 2 * last + length p.branches ≤ 2 * p.last_branch + length xs + 1
     → IsNumbered (record (revised p) { branches = xs; last_branch = last })
-numbered_branches p xs last h listed few = let spent = h.spent in record {
-  interventions = h.interventions;
-  bookmarks = h.bookmarks;
-  branches = listed;
-  small = h.small;
-  spent = omega (arith, spent, few);
-}
+numbered_branches p xs last h listed few = grind arith
 
 numbered_world : (p : Plan) (rule : Rule) (start : World) → IsNumbered p
     → IsNumbered (record (revised p) { rule = rule; start = start })
-numbered_world p rule start h = let spent = h.spent in record {
-  interventions = h.interventions;
-  bookmarks = h.bookmarks;
-  branches = h.branches;
-  small = h.small;
-  spent = omega (arith, spent);
-}
+numbered_world p rule start h = grind arith
 
 numbered_inserted : (p : Plan) (b : ℕ) (acts : Acts) (cells : List CellSet) → IsNumbered p → length cells ≤ 10000
     → IsNumbered (with_intervention p b acts cells).plan
@@ -199,13 +127,13 @@ numbered_acting p id acts cells h few =
 pub numbered_step : (p : Plan) (asked : Asked) → IsNumbered p → refusal p asked ≡ None
     → IsNumbered (changed p asked).plan
 numbered_step p (InsertIntervention b generation cells) h free =
-    numbered_inserted p b (Once generation) cells h (few_inserted p b (Once generation) cells free)
+    numbered_inserted p b (Once generation) cells h (fit_insertion p b (Once generation) cells free).set.few
 numbered_step p (ChangeIntervention id generation cells) h free =
-    numbered_acting p id (Once generation) cells h (few_changed p id (Once generation) cells free)
+    numbered_acting p id (Once generation) cells h (fit_change p id (Once generation) cells free).set.few
 numbered_step p (InsertRepeat b first every last cells) h free =
-    numbered_inserted p b (Every first every last) cells h (few_inserted p b (Every first every last) cells free)
+    numbered_inserted p b (Every first every last) cells h (fit_insertion p b (Every first every last) cells free).set.few
 numbered_step p (ChangeRepeat id first every last cells) h free =
-    numbered_acting p id (Every first every last) cells h (few_changed p id (Every first every last) cells free)
+    numbered_acting p id (Every first every last) cells h (fit_change p id (Every first every last) cells free).set.few
 numbered_step p (RemoveIntervention id) h free =
     let long = length-without intervention_id p.interventions id h.interventions.rise in
     numbered_interventions p (without intervention_id p.interventions id) p.last_intervention h

@@ -1,52 +1,41 @@
 -- The rule and the start of a document aren't refused.
-use Rattle.std.proofs.Common.{◌≡◌, ℕ, ◌+◌, ◌<◌, ◌^◌, true, not, [], ◌∷◌, map, nat_lt, refl, sym, ap, ◌∙◌, subst, arith, ℤ, pos, neg_ℤ, ◌≤ℤ◌, ◌<ℤ◌, ◌+ℤ◌, ◌-ℤ◌}
-use Rattle.std.specs.Prelude.{int_le, int_lt, ◌&&◌}
+use Rattle.std.proofs.Common.{◌≡◌, ℕ, ◌+◌, ◌<◌, ◌^◌, true, [], ◌∷◌, map, nat_lt, refl, ap, ◌∙◌, arith, ℤ, pos, neg_ℤ, ◌≤ℤ◌, ◌<ℤ◌, ◌+ℤ◌, ◌-ℤ◌, None}
+use Rattle.std.specs.Prelude.{◌&&◌}
 use Rattle.std.specs.List.{list_all}
+use Rattle.std.proofs.lemmas.Bool.Decides.{nat_tests}
 use Rattle.std.proofs.lemmas.Int.{ints}
 use Rattle.worlds.specs.World.{Place, World, blank, cell, entries-blank}
 use Rattle.worlds.specs.Live.{as_live, live, live-entries, live-states}
 use Rattle.worlds.specs.Range.{AllBelow, HasMargin, IsInside}
 use Rattle.rule_tree.specs.Rule.{states_of}
 use Rattle.schedule.specs.Asked.{ReplaceRule, ReplaceStart}
-use Rattle.schedule.specs.Change.{all_set_below, is_named, lies_below, lies_near}
+use Rattle.schedule.specs.Change.{is_named, lies_below, lies_near, refusal}
 use Rattle.schedule.specs.Plan.{Plan, opening}
 use Rattle.schedule.specs.Sound.{IsSound}
+use Rattle.schedule.proofs.Each.{all_pass}
 use Rattle.document_replay.specs.Law.{Lead, bare}
-use Rattle.document_replay.proofs.Tests.{all_pass, both, less, pass, unspent}
 
 pub named : (x y : ℤ) → IsInside (2 ^ 60) x y → (is_named x && is_named y) ≡ true
-named x y h = both (is_named x) (is_named y) (named_one x h.left h.right) (named_one y h.top h.bottom)
+named x y h = grind (arith, named_one x h.left h.right, named_one y h.top h.bottom)
   where
-    low_enough : (z : ℤ) → neg_ℤ (pos (2 ^ 60)) ≤ℤ z → int_le (neg_ℤ (pos (2 ^ 60))) z ≡ true
-    low_enough z h = grind (arith, ints)
-
-    high_enough : (z : ℤ) → z <ℤ pos (2 ^ 60) → int_lt z (pos (2 ^ 60)) ≡ true
-    high_enough z h = grind (arith, ints)
-
     named_one : (z : ℤ) → neg_ℤ (pos (2 ^ 61)) ≤ℤ (z -ℤ pos (2 ^ 60)) → (z +ℤ pos (2 ^ 60)) <ℤ pos (2 ^ 61)
         → is_named z ≡ true
-    named_one z h k =
-        let low : neg_ℤ (pos (2 ^ 60)) ≤ℤ z = omega (arith, ints, h) in
-        let high : z <ℤ pos (2 ^ 60) = omega (arith, ints, k) in
-        both (int_le (neg_ℤ (pos (2 ^ 60))) z) (int_lt z (pos (2 ^ 60))) (low_enough z low) (high_enough z high)
+    named_one z h k = grind (arith, ints)
 
 -- the rule has states
 pub some_states : (p : Plan) → IsSound p → 0 < states_of p.rule
 some_states p sound = let h = sound.start_below (pos 0) (pos 0) in omega (arith, h)
 
-near_one : (w : World) → HasMargin (2 ^ 60) w → (e : Place × ℕ) → (cell w e.0.1 e.0.0 ≡ e.1) × (0 < e.1)
-    → (is_named e.0.1 && is_named e.0.0) ≡ true
-near_one w inside e h = named e.0.1 e.0.0 (inside e.0.1 e.0.0 (subst (λ n. 0 < n) (sym h.0) h.1))
-
 lies_near-margin : (w : World) → HasMargin (2 ^ 60) w → lies_near w ≡ true
 lies_near-margin w inside =
     all_pass (λ (e : Place × ℕ). is_named e.0.1 && is_named e.0.0)
-    (λ (e : Place × ℕ). (cell w e.0.1 e.0.0 ≡ e.1) × (0 < e.1)) (live w) (near_one w inside) (live-states w)
+    (λ (e : Place × ℕ). (cell w e.0.1 e.0.0 ≡ e.1) × (0 < e.1)) (live w)
+    (λ e h. named e.0.1 e.0.0 (inside e.0.1 e.0.0 (rw h.0 h.1))) (live-states w)
 
 lies_below-all : (n : ℕ) (w : World) → AllBelow n w → lies_below n w ≡ true
 lies_below-all n w below =
-    all_pass (λ (e : Place × ℕ). nat_lt e.1 n) (λ (e : Place × ℕ). (cell w e.0.1 e.0.0 ≡ e.1) × (0 < e.1)) (live w)
-    (λ e h. less e.1 n (subst (λ m. m < n) h.0 (below e.0.1 e.0.0))) (live-states w)
+    all_pass (λ (e : Place × ℕ). nat_lt e.1 n) _ (live w)
+    (λ e h. let low = below e.0.1 e.0.0 in grind (arith, nat_tests, h.0, low)) (live-states w)
 
 -- nothing is live in the blank world, so every rule fits it
 none_live : live blank ≡ []
@@ -59,9 +48,8 @@ blank_below n = ap (list_all (λ (e : Place × ℕ). nat_lt e.1 n)) none_live
 pub rule_leads : (p : Plan) (k : ℕ) → k + 1 < 2 ^ 64
     → Lead (ReplaceRule p.rule ∷ []) (opening k) (record (opening (k + 1)) { rule = p.rule })
 rule_leads p k left =
-    let n = states_of p.rule in
-    let fits = both (lies_below n blank) (all_set_below n []) (blank_below n) refl in
-    (pass _ (ap not fits) (pass _ (unspent k left) refl), refl)
+    let fits = blank_below (states_of p.rule) in
+    let free : refusal (opening k) (ReplaceRule p.rule) ≡ None = grind (arith, nat_tests, fits) in (free, refl)
 
 -- and from there to the one with the start too
 pub start_leads : (p : Plan) → IsSound p → (k : ℕ) → k + 1 < 2 ^ 64
@@ -69,4 +57,5 @@ pub start_leads : (p : Plan) → IsSound p → (k : ℕ) → k + 1 < 2 ^ 64
 start_leads p sound k left =
     let near = lies_near-margin p.start sound.start_inside in
     let below = lies_below-all (states_of p.rule) p.start sound.start_below in
-    (pass _ (ap not near) (pass _ (ap not below) (pass _ (unspent k left) refl)), refl)
+    let ruled : Plan = record (opening k) { rule = p.rule } in
+    let free : refusal ruled (ReplaceStart p.start) ≡ None = grind (arith, nat_tests, near, below) in (free, refl)
