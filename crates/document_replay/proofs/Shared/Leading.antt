@@ -37,12 +37,9 @@ length-skips : (skip : ℕ → List Asked) → ((n : ℕ) → length (skip n) �
     → length (flat_map skip (range_with_len a n)) ≡ 2 * n
 length-skips skip two a zero = refl
 length-skips skip two a (suc n) =
-    omega (
-      arith,
-      length-append (skip a) (flat_map skip (range_with_len (a + 1) n)),
-      two a,
-      length-skips skip two (a + 1) n,
-    )
+    let long = length-append (skip a) (flat_map skip (range_with_len (a + 1) n)) in
+    let rest = length-skips skip two (a + 1) n in
+    omega (arith, two a, long, rest)
 
 skip_all : {X : Type 0} (id : X → ℕ) (skip : ℕ → List Asked) (add : X → Asked) (at : ℕ → List X → ℕ → Plan)
     (xs : List X) (all : Adds id skip add at xs) (done : List X) (x : X) (rest : List X) → done ++ x ∷ rest ≡ xs

@@ -5,18 +5,15 @@ use Rattle.std.specs.List.{AllByRecursion}
 use Rattle.std.proofs.lemmas.List.{length-map}
 use Rattle.basics.proofs.Shared.Lists.{all_append}
 use Rattle.worlds.specs.declared.cell.CellSet.{CellSet}
-use Rattle.worlds.specs.Lay.{lay}
-use Rattle.worlds.specs.World.{World}
-use Rattle.rule_tree.specs.declared.rule.Rule.{Rule}
 use Rattle.schedule.specs.declared.acts.Acts.{Acts}
 use Rattle.schedule.specs.declared.acts.Acts.TheVariants.{Once, Every}
 use Rattle.schedule.specs.declared.document.Intervention.{Intervention}
 use Rattle.schedule.specs.declared.document.Bookmark.{Bookmark}
 use Rattle.schedule.specs.declared.branch.Branch.{Branch}
 use Rattle.schedule.specs.Asked.{Asked, InsertIntervention, ChangeIntervention, InsertRepeat, ChangeRepeat}
-use Rattle.schedule.specs.Asked.{RemoveIntervention, SetCells, ReplaceStart, ReplaceRule, AddBookmark, MoveBookmark}
+use Rattle.schedule.specs.Asked.{RemoveIntervention, AddBookmark, MoveBookmark}
 use Rattle.schedule.specs.Asked.{RemoveBookmark, AddBranch, RemoveBranch}
-use Rattle.schedule.specs.Change.{acting, changed, marking, next_bookmark, next_branch, next_intervention, refusal, revised}
+use Rattle.schedule.specs.Change.{acting, changed, marking, next_bookmark, next_branch, next_intervention, refusal}
 use Rattle.schedule.specs.Change.{with_changed_intervention, with_intervention}
 use Rattle.schedule.specs.Ids.{IdsRise, bookmark_id, branch_id, changed_at, intervention_id, without}
 use Rattle.schedule.specs.Plan.{Plan, opening}
@@ -80,37 +77,15 @@ pub record IsNumbered (p : Plan) : Type 0 where
 pub numbered_opening : (revision : ℕ) → IsNumbered (opening revision)
 numbered_opening revision = grind arith
 
--- other lists of elements, where one that is gone or an id more takes a revision
-
-numbered_interventions : (p : Plan) (is : List Intervention) (last : ℕ) → IsNumbered p
-    → AreNumbered intervention_id is last → AreSmall is
-    → 2 * last + length p.interventions ≤ 2 * p.last_intervention + length is + 1
-    → IsNumbered (record (revised p) { interventions = is; last_intervention = last })
-numbered_interventions p is last h listed small few = grind arith
-
-numbered_bookmarks : (p : Plan) (bs : List Bookmark) (last : ℕ) → IsNumbered p → AreNumbered bookmark_id bs last
-    → 2 * last + length p.bookmarks ≤ 2 * p.last_bookmark + length bs + 1
-    → IsNumbered (record (revised p) { bookmarks = bs; last_bookmark = last })
-numbered_bookmarks p bs last h listed few = grind arith
-
-numbered_branches : (p : Plan) (xs : List Branch) (last : ℕ) → IsNumbered p → AreNumbered branch_id xs last
-    → 2 * last + length p.branches ≤ 2 * p.last_branch + length xs + 1
-    → IsNumbered (record (revised p) { branches = xs; last_branch = last })
-numbered_branches p xs last h listed few = grind arith
-
-numbered_world : (p : Plan) (rule : Rule) (start : World) → IsNumbered p
-    → IsNumbered (record (revised p) { rule = rule; start = start })
-numbered_world p rule start h = grind arith
+-- one element more, or another, takes a revision
 
 numbered_inserted : (p : Plan) (b : ℕ) (acts : Acts) (cells : List CellSet) → IsNumbered p → length cells ≤ 10000
     → IsNumbered (with_intervention p b acts cells).plan
 numbered_inserted p b acts cells h few =
     let i : Intervention = next_intervention p b acts cells in
-    let long = length-append p.interventions (i ∷ []) in
-    numbered_interventions p (p.interventions ++ i ∷ []) (p.last_intervention + 1) h
-    (numbered_push intervention_id p.interventions i p.last_intervention h.interventions refl)
-    (all_append (λ (j : Intervention). length j.cells ≤ 10000) p.interventions (i ∷ []) h.small (few, tt))
-    (omega (arith, long))
+    let listed = numbered_push intervention_id p.interventions i p.last_intervention h.interventions refl in
+    let small = all_append (λ (j : Intervention). length j.cells ≤ 10000) p.interventions (i ∷ []) h.small (few, tt) in
+    grind (arith, listed, small, length-append p.interventions (i ∷ []))
 
 numbered_acting : (p : Plan) (id : ℕ) (acts : Acts) (cells : List CellSet) → IsNumbered p → length cells ≤ 10000
     → IsNumbered (with_changed_intervention p id acts cells).plan
@@ -118,10 +93,9 @@ numbered_acting p id acts cells h few =
     let f = acting acts cells in
     let c : Intervention → Bool = λ i. i.id == id in
     let long = length-map p.interventions (λ i. if c i then f i else i) in
-    numbered_interventions p (changed_at intervention_id f p.interventions id) p.last_intervention h
-    (numbered_changed intervention_id f p.interventions id p.last_intervention (λ i. refl) h.interventions)
-    (each_map (λ (i : Intervention). length i.cells ≤ 10000) c f p.interventions (λ _ _. few) h.small)
-    (omega (arith, long))
+    let listed = numbered_changed intervention_id f p.interventions id p.last_intervention (λ i. refl) h.interventions in
+    let small = each_map (λ (i : Intervention). length i.cells ≤ 10000) c f p.interventions (λ _ _. few) h.small in
+    grind (arith, long, listed, small)
 
 -- an edit that isn't refused keeps that
 pub numbered_step : (p : Plan) (asked : Asked) → IsNumbered p → refusal p asked ≡ None
@@ -136,36 +110,32 @@ numbered_step p (ChangeRepeat id first every last cells) h free =
     numbered_acting p id (Every first every last) cells h (fit_change p id (Every first every last) cells free).set.few
 numbered_step p (RemoveIntervention id) h free =
     let long = length-without intervention_id p.interventions id h.interventions.rise in
-    numbered_interventions p (without intervention_id p.interventions id) p.last_intervention h
-    (numbered_without intervention_id p.interventions id p.last_intervention h.interventions)
-    (each_filter (λ (i : Intervention). length i.cells ≤ 10000) (λ (i : Intervention). not (i.id == id))
-    p.interventions h.small) (omega (arith, long))
-numbered_step p (SetCells cells) h free = numbered_world p p.rule (lay cells p.start) h
-numbered_step p (ReplaceStart start) h free = numbered_world p p.rule start h
-numbered_step p (ReplaceRule rule) h free = numbered_world p rule p.start h
+    let listed = numbered_without intervention_id p.interventions id p.last_intervention h.interventions in
+    let small = each_filter (λ (i : Intervention). length i.cells ≤ 10000) (λ (i : Intervention). not (i.id == id))
+    p.interventions h.small in
+    grind (arith, long, listed, small)
 numbered_step p (AddBookmark b generation view) h free =
     let k : Bookmark = next_bookmark p b generation view in
-    let long = length-append p.bookmarks (k ∷ []) in
-    numbered_bookmarks p (p.bookmarks ++ k ∷ []) (p.last_bookmark + 1) h
-    (numbered_push bookmark_id p.bookmarks k p.last_bookmark h.bookmarks refl) (omega (arith, long))
+    let listed = numbered_push bookmark_id p.bookmarks k p.last_bookmark h.bookmarks refl in
+    grind (arith, listed, length-append p.bookmarks (k ∷ []))
 numbered_step p (MoveBookmark id generation) h free =
     let f = marking generation in
     let long = length-map p.bookmarks (λ (k : Bookmark). if k.id == id then f k else k) in
-    numbered_bookmarks p (changed_at bookmark_id f p.bookmarks id) p.last_bookmark h
-    (numbered_changed bookmark_id f p.bookmarks id p.last_bookmark (λ k. refl) h.bookmarks) (omega (arith, long))
+    let listed = numbered_changed bookmark_id f p.bookmarks id p.last_bookmark (λ k. refl) h.bookmarks in
+    grind (arith, long, listed)
 numbered_step p (RemoveBookmark id) h free =
     let long = length-without bookmark_id p.bookmarks id h.bookmarks.rise in
-    numbered_bookmarks p (without bookmark_id p.bookmarks id) p.last_bookmark h
-    (numbered_without bookmark_id p.bookmarks id p.last_bookmark h.bookmarks) (omega (arith, long))
+    let listed = numbered_without bookmark_id p.bookmarks id p.last_bookmark h.bookmarks in
+    grind (arith, long, listed)
 numbered_step p (AddBranch parent generation) h free =
     let x : Branch = next_branch p parent generation in
-    let long = length-append p.branches (x ∷ []) in
-    numbered_branches p (p.branches ++ x ∷ []) (p.last_branch + 1) h
-    (numbered_push branch_id p.branches x p.last_branch h.branches refl) (omega (arith, long))
+    let listed = numbered_push branch_id p.branches x p.last_branch h.branches refl in
+    grind (arith, listed, length-append p.branches (x ∷ []))
 numbered_step p (RemoveBranch b) h free =
     let long = length-without branch_id p.branches b h.branches.rise in
-    numbered_branches p (without branch_id p.branches b) p.last_branch h
-    (numbered_without branch_id p.branches b p.last_branch h.branches) (omega (arith, long))
+    let listed = numbered_without branch_id p.branches b p.last_branch h.branches in
+    grind (arith, long, listed)
+numbered_step p asked h free = grind arith
 
 -- so do all of a list
 pub numbered_all : (edits : List Asked) (p q : Plan) → IsNumbered p → Lead edits p q → IsNumbered q
@@ -174,11 +144,7 @@ numbered_all (asked ∷ edits) p q h lead =
     numbered_all edits (changed p asked).plan q (numbered_step p asked h lead.0) lead.1
 
 pub made : (p : Plan) → IsNumbered p → IsMade p
-made p h = record {
-  interventions_from_one = h.interventions.from_one;
-  bookmarks_from_one = h.bookmarks.from_one;
-  few_cells = h.small;
-}
+made p h = grind arith
 
 pub edits_make_documents : EditsMakeDocuments
 edits_make_documents revision edits p lead =
