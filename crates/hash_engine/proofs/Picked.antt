@@ -27,13 +27,10 @@ picked-more p q j (suc n) below was is others =
     grind (arith, cases_eq j n, picked-same p q n, picked-more p q j n)
 
 -- what holds of each number that passes
-All-cond : {X : Type 0} (P : X → Type 0) (f : ℕ → X) (b : Bool) (n : ℕ) (xs : List ℕ) → (b ≡ true → P (f n)) → All P (map f xs) → All P (map f (cond b (n ∷ xs) xs))
-All-cond P f b n xs here rest = grind (arith, All-cons)
-
 pub All-picked : {X : Type 0} (P : X → Type 0) (f : ℕ → X) (p : ℕ → Bool) (n : ℕ) → ((i : ℕ) → i < n → p i ≡ true → P (f i)) → All P (map f (picked p n))
 unfolding picked
 All-picked P f p zero holds = All-nil P
-All-picked P f p (suc n) holds = grind (arith, All-cond P f (p n) n (picked p n), All-picked P f p n)
+All-picked P f p (suc n) holds = grind (arith, All-cons P (f n) (map f (picked p n)), All-picked P f p n)
 
 -- each number that passes is there
 first-cond : {X : Type 0} (f : ℕ → X) (b : Bool) (n : ℕ) (xs : List ℕ) → b ≡ true → Contains (map f (cond b (n ∷ xs) xs)) (f n)
@@ -50,15 +47,12 @@ Contains-picked f p (suc n) i below is =
     grind (arith, cases_eq i n, first-cond f (p n), later-cond f (p n), Contains-picked f p n i)
 
 -- what differs for different numbers that pass
-different-cond : {X : Type 0} (f : ℕ → X) (b : Bool) (n : ℕ) (xs : List ℕ) → (b ≡ true → All (λ t. f n ≢ t) (map f xs)) → AllPairs (λ s t. s ≢ t) (map f xs) → AllPairs (λ s t. s ≢ t) (map f (cond b (n ∷ xs) xs))
-different-cond f b n xs here rest = grind (arith, AllPairs-cons)
-
 pub different-picked : {X : Type 0} (f : ℕ → X) (p : ℕ → Bool) (n : ℕ) → ((i j : ℕ) → j < i → i < n → p i ≡ true → p j ≡ true → f i ≢ f j) → AllPairs (λ s t. s ≢ t) (map f (picked p n))
 unfolding picked
 different-picked f p zero differ = λ i j d below there. absurd (omega (arith, there))
 different-picked f p (suc n) differ =
     let here = All-picked (λ t. f n ≢ t) f p n in
-    grind (arith, different-cond f (p n) n (picked p n), here, different-picked f p n)
+    grind (arith, AllPairs-cons, here, different-picked f p n)
 
 -- one number more
 pub count-passed : (p : ℕ → Bool) (n : ℕ) → p n ≡ true → length (picked p (n + 1)) ≡ length (picked p n) + 1

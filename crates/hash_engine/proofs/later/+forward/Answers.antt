@@ -29,59 +29,40 @@ pub compute-returns-in_err-nine-clause-keeps : goal.compute-returns-in_err-nine-
 compute-returns-in_err-nine-clause-keeps g t c = search (rules, nine_keeps)
 
 pub compute-all_forward-requires : goal.compute-all_forward-requires
-compute-all_forward-requires g t c κs within =
-    let nine = c.in_ok-nine.ensures in
-    let can = nine_can c.requires c.min-first.ensures c.full.ensures nine.adds nine.squares in
-    search rules
+compute-all_forward-requires g t c κs within = let can = nine_can c.requires c.min-first.ensures c.full.ensures c.in_ok-nine.ensures.adds c.in_ok-nine.ensures.squares in search rules
 
 pub compute-returns-in_err-all_forward-clause-keeps : goal.compute-returns-in_err-all_forward-clause-keeps
-compute-returns-in_err-all_forward-clause-keeps g t c =
-    let nine = c.in_ok-nine.ensures in
-    first_keeps c.requires c.min-first.ensures c.full.ensures nine.adds nine.squares c.all_forward.ensures.keeps
+compute-returns-in_err-all_forward-clause-keeps g t c = first_keeps c.requires c.min-first.ensures c.full.ensures c.in_ok-nine.ensures.adds c.in_ok-nine.ensures.squares c.all_forward.ensures.keeps
 
 pub compute-returns-in_err-fours-clause-keeps : goal.compute-returns-in_err-fours-clause-keeps
 compute-returns-in_err-fours-clause-keeps g t c =
-    let nine = c.in_ok-nine.ensures in
-    let one = c.in_ok-all_forward.ensures in
-    fours_keeps c.requires c.min-first.ensures c.full.ensures nine.adds nine.squares one.keeps one.found c.fours.ensures.adds
+    fours_keeps c.requires c.min-first.ensures c.full.ensures c.in_ok-nine.ensures.adds c.in_ok-nine.ensures.squares c.in_ok-all_forward.ensures.keeps c.in_ok-all_forward.ensures.found c.fours.ensures.adds
 
 pub compute-all_forward-requires-2 : goal.compute-all_forward-requires-2
 compute-all_forward-requires-2 g t c κs within =
-    let nine = c.in_ok-nine.ensures in
-    let one = c.in_ok-all_forward.ensures in
-    let four = c.in_ok-fours.ensures in
-    let can = fours_can c.requires c.min-first.ensures c.full.ensures nine.adds nine.squares one.keeps one.found four.adds four.squares in
+    let can = fours_can c.requires c.min-first.ensures c.full.ensures c.in_ok-nine.ensures.adds c.in_ok-nine.ensures.squares c.in_ok-all_forward.ensures.keeps c.in_ok-all_forward.ensures.found
+    c.in_ok-fours.ensures.adds c.in_ok-fours.ensures.squares in
     search rules
 
 pub compute-returns-in_err-all_forward-2-clause-keeps : goal.compute-returns-in_err-all_forward-2-clause-keeps
 compute-returns-in_err-all_forward-2-clause-keeps g t c =
-    let nine = c.in_ok-nine.ensures in
-    let one = c.in_ok-all_forward.ensures in
-    let four = c.in_ok-fours.ensures in
-    last_keeps c.requires c.min-first.ensures c.full.ensures nine.adds nine.squares one.keeps one.found four.adds four.squares
-    c.all_forward-2.ensures.keeps
+    last_keeps c.requires c.min-first.ensures c.full.ensures c.in_ok-nine.ensures.adds c.in_ok-nine.ensures.squares c.in_ok-all_forward.ensures.keeps c.in_ok-all_forward.ensures.found
+    c.in_ok-fours.ensures.adds c.in_ok-fours.ensures.squares c.all_forward-2.ensures.keeps
 
 pub compute-returns-in_err-all_forward-2-clause-end : goal.compute-returns-in_err-all_forward-2-clause-end
 compute-returns-in_err-all_forward-2-clause-end g t c = grind arith
 
 pub compute-returns-in_err-join_numbers-clause-keeps : goal.compute-returns-in_err-join_numbers-clause-keeps
 compute-returns-in_err-join_numbers-clause-keeps g t c =
-    let nine = c.in_ok-nine.ensures in
-    let one = c.in_ok-all_forward.ensures in
-    let four = c.in_ok-fours.ensures in
-    let two = c.in_ok-all_forward-2.ensures in
-    joined_keeps c.requires c.min-first.ensures c.full.ensures nine.adds nine.squares one.keeps one.found four.adds four.squares
-    two.keeps two.found c.join_numbers.ensures.grows c.join_numbers.ensures.one
+    joined_keeps c.requires c.min-first.ensures c.full.ensures c.in_ok-nine.ensures.adds c.in_ok-nine.ensures.squares c.in_ok-all_forward.ensures.keeps c.in_ok-all_forward.ensures.found
+    c.in_ok-fours.ensures.adds c.in_ok-fours.ensures.squares c.in_ok-all_forward-2.ensures.keeps c.in_ok-all_forward-2.ensures.found
+    c.join_numbers.ensures.grows c.join_numbers.ensures.one
 
 pub compute-returns : goal.compute-returns
 compute-returns g t c =
-    let nine = c.in_ok-nine.ensures in
-    let one = c.in_ok-all_forward.ensures in
-    let four = c.in_ok-fours.ensures in
-    let two = c.in_ok-all_forward-2.ensures in
-    let join = c.in_ok-join_numbers.ensures in
-    let all = joined_all c.requires c.min-first.ensures c.full.ensures nine.adds nine.squares one.keeps one.found four.adds four.squares
-    two.keeps two.found join.grows one.asks two.asks join.one join.square in
+    let all = joined_all c.requires c.min-first.ensures c.full.ensures c.in_ok-nine.ensures.adds c.in_ok-nine.ensures.squares c.in_ok-all_forward.ensures.keeps c.in_ok-all_forward.ensures.found
+    c.in_ok-fours.ensures.adds c.in_ok-fours.ensures.squares c.in_ok-all_forward-2.ensures.keeps c.in_ok-all_forward-2.ensures.found
+    c.in_ok-join_numbers.ensures.grows c.in_ok-all_forward.ensures.asks c.in_ok-all_forward-2.ensures.asks c.in_ok-join_numbers.ensures.one c.in_ok-join_numbers.ensures.square in
     record { keeps = all.0; end = search rules; found = all.1; asks = all.2 }
 
 pub forward-returns-in_err-middle-clause-keeps : goal.forward-returns-in_err-middle-clause-keeps
