@@ -18,7 +18,7 @@ use Rattle.hash_engine.specs.Search.{sought, Asks, IsCounted}
 use Rattle.hash_engine.specs.declared.memo.Memo.{Memo}
 use Rattle.hash_engine.proofs.Standing.{within}
 use Rattle.hash_engine.proofs.Picked.{picked-none, All-picked, Contains-picked, different-picked}
-use Rattle.hash_engine.proofs.Shared.Puts.{is_put-none, is_put-two, IsNumber-put, known-put}
+use Rattle.hash_engine.proofs.Shared.{is_put-none, is_put-two, IsNumber-put, known-put}
 
 -- where P holds of each square that is put to the rule, there is a list of them
 record Listed (P : Square → Type 0) (Way : (Square → Type 0) → Type 0) : Type 0 where

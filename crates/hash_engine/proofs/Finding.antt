@@ -3,30 +3,31 @@ use Rattle.std.proofs.Common.{◌≡◌, ℕ, suc, ◌+◌, ◌-◌, ◌*◌, �
 use Rattle.std.specs.Prelude.{Contains, ◌≢◌, All}
 use Rattle.std.proofs.lemmas.Bool.{cases_eq}
 use Rattle.worlds.specs.Square.{Square, one}
-use Rattle.square_table.specs.Squares.{Table, IsNumber, square_in, first_number, Grows}
+use Rattle.square_table.specs.Squares.{Table, IsNumber, square_in, first_number, Grows, level_of, number_of, cells_of}
+use Rattle.square_table.specs.declared.square.Square as handles
 use Rattle.square_table.proofs.Shared.Growth.{IsNumber-grows, square_in-grows, Grows-then, Grows-same}
 use Rattle.square_table.proofs.Shared.Numbers.{one_level}
 use Rattle.hash_life.specs.Puts.{Puts}
 use Rattle.hash_life.proofs.Shared.InTwo.{Puts-itself, result-none, result-later}
+use Rattle.hash_life.proofs.Shared.Below as states
 use Rattle.hash_life.proofs.Shared.Put.{Puts-last, Puts-weaker, Puts-none}
 use Rattle.hash_engine.specs.Memo.{AreKnown, IsRight, IsPut, ArePut, HasPut, IsRemembered, IsResult, StaysRight}
 use Rattle.hash_engine.specs.Asked.{is_put, places_put}
-use Rattle.hash_engine.specs.Search.{sought, Asks, Keeps, IsCounted, IsFound, FindsForAll}
+use Rattle.hash_engine.specs.Search.{sought, Asks, Keeps, CanSeek, IsCounted, IsFound, FindsForAll}
 use Rattle.hash_engine.specs.declared.memo.Memo.{Memo}
-use Rattle.hash_engine.proofs.Standing.{above, within, StandsFor-itself, StandsFor-grows}
+use Rattle.hash_engine.specs.Found.{CanBeAsked}
+use Rattle.hash_engine.proofs.Standing.{above, within, below_some, StandsFor-itself, StandsFor-grows}
 use Rattle.hash_engine.proofs.Picked.{picked-same, picked-more}
-use Rattle.hash_engine.proofs.Shared.Puts.{is_put-none, is_put-two, is_put-more, is_put-agrees, count-grows, others}
+use Rattle.hash_engine.proofs.Shared.{IsRight-grows, is_put-none, is_put-two, is_put-more, is_put-agrees, count-grows, others}
 use Rattle.square_table.specs.Made.{AreAmong, IsMade, Adds}
-use Rattle.hash_engine.proofs.Shared.Memos.{IsRight-grows}
 use Rattle.std.proofs.lemmas.List.{length-map, get_or-map}
 use Rattle.std.proofs.lemmas.List.Elements.{All-nil, All-cons}
 use Rattle.square_table.proofs.Shared.Making.{IsMade-grows}
-use Rattle.hash_life.specs.Result.{later, result}
+use Rattle.hash_life.specs.Result.{middle, later, result}
 use Rattle.hash_life.specs.Makes.{Makes}
 use Rattle.hash_life.proofs.Shared.Made.{Makes-none, Makes-last, Makes-weaker, Makes-result}
 use Rattle.hash_engine.specs.Standing.{StandsFor, StandForAll}
 use Rattle.hash_engine.specs.Adding.{AddsOf, GivesOf}
-use Rattle.hash_life.specs.Result as hash_life
 
 -- in a table that grew the same squares were put
 pub IsPut-grows : (t u : Table) (full : List ℕ) (s : Square) → Grows t u → IsPut t.rows full s → IsPut u.rows full s
@@ -201,23 +202,31 @@ pub adds_result : (next : List ℕ → ℕ) (k generations : ℕ) (s : Square) {
     Makes next k generations s (Contains all) → AreAmong all t.rows → AreAmong all u.rows
 adds_result next k generations s {r} {t} {u} is adds all way are = grind (arith, Makes-result, All-cons, All-nil)
 
+-- that of the root of a search can be sought
+pub CanSeek-root : {next : List ℕ → ℕ} {c : ℕ} {t : Table} {memo : Memo} {root : handles.Square} {generations level n : ℕ} → CanBeAsked c t root →
+    states.Keeps c next → level ≡ level_of root → n ≡ number_of root → IsRight next t.rows memo → CanSeek next c t memo (level - 2) generations n
+CanSeek-root {next} {c} {t} {memo} {root} {generations} {level} {n} asked keeps is same right =
+    let below = states.Puts-below c next keeps (below_some c (cells_of t root) asked.below) (level - 2) generations (cells_of t root) asked.below in
+    let two : level_of root ≡ suc (suc (level - 2)) = omega (arith, asked.level.0, is) in
+    grind (arith, asked, is, same, two, below, right)
+
 -- for no generation it is the middle
 pub Keeps-middle : (k n : ℕ) {next : List ℕ → ℕ} {c ahead : ℕ} {t u : Table} {memo : Memo} → ahead ≡ 0 → IsRight next t.rows memo →
-    IsNumber t.rows (suc (suc k)) n → AddsOf (λ s. hash_life.middle s ∷ []) t n u → Keeps next next c c (Makes next k ahead (sought t k n)) t u memo
+    IsNumber t.rows (suc (suc k)) n → AddsOf (λ s. middle s ∷ []) t n u → Keeps next next c c (Makes next k ahead (sought t k n)) t u memo
 Keeps-middle k n {next} {c} {ahead} {t} none right numbered adds =
     let s = sought t k n in
-    let is : hash_life.middle s ≡ result next k ahead s = grind (arith, none, result-none next k s) in
+    let is : middle s ≡ result next k ahead s = grind (arith, none, result-none next k s) in
     let made = adds k s (StandsFor-itself t.rows (suc (suc k)) n numbered) in
     Keeps-made made.grows right (adds_result next k ahead s is made)
 
 pub IsFound-none : {next : List ℕ → ℕ} {Counted : Type 0} {k generations n r : ℕ} {t u : Table} {memo : Memo} → generations ≡ 0 → Grows t u →
-    IsNumber t.rows (suc (suc k)) n → GivesOf hash_life.middle t n u r → IsFound next Counted k generations (sought t k n) u memo r
+    IsNumber t.rows (suc (suc k)) n → GivesOf middle t n u r → IsFound next Counted k generations (sought t k n) u memo r
 IsFound-none {next} {Counted} {k} {generations} {n} {r} {t} {u} {memo} none grows numbered gives =
     let s = sought t k n in
     let stands = StandsFor-itself t.rows (suc (suc k)) n numbered in
-    let middle = subst (StandsFor u.rows (suc k) r) (sym (result-none next k s)) (gives k s stands) in
-    let made = Makes-none next k s (IsMade u.rows) (made_of (StandsFor-grows t u (suc (suc k)) n s grows stands)) (made_of middle) in
-    grind (arith, none, middle, made, Puts-none next k s (IsPut u.rows memo.full.items))
+    let found = subst (StandsFor u.rows (suc k) r) (sym (result-none next k s)) (gives k s stands) in
+    let made = Makes-none next k s (IsMade u.rows) (made_of (StandsFor-grows t u (suc (suc k)) n s grows stands)) (made_of found) in
+    grind (arith, none, found, made, Puts-none next k s (IsPut u.rows memo.full.items))
 
 -- for a square of 4 by 4 cells it is put to the rule
 pub IsFound-put : (n : ℕ) {next : List ℕ → ℕ} {Counted : Type 0} {generations r : ℕ} {t u : Table} {memo : Memo} → 0 < generations → Grows t u →

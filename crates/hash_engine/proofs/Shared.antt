@@ -1,3 +1,95 @@
--- Lemmas that other crates may cite.
-pub mod Puts
-pub mod Memos
+-- What other crates may cite: what is remembered stays right, and which squares were put to the rule.
+use Rattle.std.proofs.Common.{◌≡◌, ℕ, suc, ◌+◌, ◌-◌, ◌<◌, ◌≤◌, ◌^◌, List, get_or, arith, zero, length, length-append, ◌∙◌, ap}
+use Rattle.square_table.specs.Squares.{Table, IsNumber, first_number, Grows}
+use Rattle.square_table.proofs.Shared.Growth.{IsNumber-grows, square_in-grows}
+use Rattle.square_table.proofs.Shared.Making.{IsMade-grows}
+use Rattle.square_table.proofs.Shared.Numbers.{one_level}
+use Rattle.hash_life.proofs.Shared.Made.{Makes-weaker}
+use Rattle.hash_engine.specs.Memo.{IsResult, AreKnown, IsRight, IsRemembered}
+use Rattle.hash_engine.specs.declared.memo.Memo.{Memo}
+use Rattle.hash_engine.proofs.Standing.{StandsFor-grows, within}
+use Rattle.std.specs.Prelude.{◌≢◌, true, false}
+use Rattle.std.proofs.lemmas.Bool.{cases_eq, cases_lt, ltb-true, and_parts}
+use Rattle.std.proofs.lemmas.Bool.Decides.{nat_tests}
+use Rattle.hash_engine.specs.Asked.{is_four, is_put, places_put}
+use Rattle.hash_engine.proofs.Picked.{picked-same, picked-none}
+
+IsResult-grows : (next : List ℕ → ℕ) (t u : Table) (k generations n r : ℕ) → Grows t u → IsResult next t.rows k generations n r → IsResult next u.rows k generations n r
+IsResult-grows next t u k generations n r grows is =
+    let same = square_in-grows t u (suc (suc k)) n grows in
+    grind (arith, same, IsNumber-grows t u (suc (suc k)) n grows, StandsFor-grows t u (suc k) r, Makes-weaker next k generations, IsMade-grows t u)
+
+AreKnown-grows : (next : List ℕ → ℕ) (count : ℕ → ℕ) (t u : Table) (known : List ℕ) → Grows t u → AreKnown next count t.rows known → AreKnown next count u.rows known
+AreKnown-grows next count t u known grows are = record { right = λ i some. let h = are.right i some in (h.0, IsResult-grows next t u h.0 (count h.0) _ _ grows h.1) }
+
+pub IsRight-grows : (next : List ℕ → ℕ) (t u : Table) (memo : Memo) → Grows t u → IsRight next t.rows memo → IsRight next u.rows memo
+IsRight-grows next t u memo grows right =
+    let full = AreKnown-grows next (λ k. 2 ^ k) t u memo.full.items grows right.full in
+    record { full = full; part = AreKnown-grows next (λ k. get_or memo.counts k 0) t u memo.part.items grows right.part }
+
+-- what stands at a square's place is its result
+pub recalled : (next : List ℕ → ℕ) (count : ℕ → ℕ) (rows : List (List ℕ)) (known : List ℕ) (k generations n r : ℕ) → generations ≡ count k → first_number ≤ n → 0 < r → get_or known (n - first_number) 0 ≡ r →
+    AreKnown next count rows known → IsNumber rows (suc (suc k)) n → IsResult next rows k generations n r
+recalled next count rows known k generations n r asked high some is are number =
+    let place : first_number + (n - first_number) ≡ n = omega (arith, high) in
+    let h = are.right (n - first_number) (omega (arith, some, is)) in
+    grind (arith, one_level rows (suc (suc h.0)) (suc (suc k)) n)
+
+-- a square of 4 by 4 cells, and one of a higher level
+pub is_four-two : (rows : List (List ℕ)) (n : ℕ) → IsNumber rows 2 n → is_four rows n ≡ true
+unfolding IsNumber
+is_four-two rows n is = grind (arith, nat_tests, is.2.0, is.2.1, is.2.2)
+
+pub is_four-more : (rows : List (List ℕ)) (k n : ℕ) → IsNumber rows (suc (suc (suc k))) n → is_four rows n ≡ false
+unfolding IsNumber
+is_four-more rows k n is = grind (arith, nat_tests, is.2.2.0)
+
+-- a square with a result is put to the rule where it has 4 by 4 cells
+pub is_put-none : (rows : List (List ℕ)) (memo : Memo) (i : ℕ) → get_or memo.full.items i 0 ≡ 0 → is_put rows memo i ≡ false
+unfolding is_put
+is_put-none rows memo i none = grind (arith, nat_tests, none)
+
+pub is_put-two : (rows : List (List ℕ)) (memo : Memo) (i : ℕ) → IsNumber rows 2 (first_number + i) → 0 < get_or memo.full.items i 0 → is_put rows memo i ≡ true
+unfolding is_put
+is_put-two rows memo i number some = let four = is_four-two rows (first_number + i) number in grind (arith, nat_tests, four, some)
+
+pub is_put-more : (rows : List (List ℕ)) (memo : Memo) (k i : ℕ) → IsNumber rows (suc (suc (suc k))) (first_number + i) → is_put rows memo i ≡ false
+unfolding is_put
+is_put-more rows memo k i number = let four = is_four-more rows k (first_number + i) number in cc
+
+two_of : (rows : List (List ℕ)) (k n : ℕ) → IsNumber rows (suc (suc k)) n → is_four rows n ≡ true → IsNumber rows 2 n
+two_of rows zero n number four = number
+two_of rows (suc k) n number four = let other = is_four-more rows k n number in absurd cc
+
+-- what is put to the rule is a square of level 2
+pub IsNumber-put : (next : List ℕ → ℕ) (rows : List (List ℕ)) (memo : Memo) (i : ℕ) → IsRight next rows memo → is_put rows memo i ≡ true → IsNumber rows 2 (first_number + i)
+unfolding is_put
+IsNumber-put next rows memo i right is =
+    let h = right.full.right i in
+    grind (arith, h, and_parts, ltb-true, two_of)
+
+pub known-put : (rows : List (List ℕ)) (memo : Memo) (i : ℕ) → is_put rows memo i ≡ true → 0 < get_or memo.full.items i 0
+unfolding is_put
+known-put rows memo i is = grind (arith, and_parts, ltb-true)
+
+by_level : (t u : Table) (memo : Memo) (k i : ℕ) → Grows t u → IsNumber t.rows (suc (suc k)) (first_number + i) → 0 < get_or memo.full.items i 0 → is_put u.rows memo i ≡ is_put t.rows memo i
+by_level t u memo zero i grows number some =
+    grind (arith, is_put-two, IsNumber-grows t u 2 (first_number + i))
+by_level t u memo (suc k) i grows number some =
+    grind (arith, is_put-more, IsNumber-grows t u (suc (suc (suc k))) (first_number + i))
+
+pub is_put-agrees : (rows : List (List ℕ)) (old new : Memo) (i : ℕ) → get_or new.full.items i 0 ≡ get_or old.full.items i 0 → is_put rows new i ≡ is_put rows old i
+unfolding is_put
+is_put-agrees rows old new i same = cc
+
+-- they are as many in a table that grew
+pub count-grows : (next : List ℕ → ℕ) (t u : Table) (memo : Memo) → Grows t u → IsRight next t.rows memo → length (places_put u.rows memo) ≡ length (places_put t.rows memo)
+unfolding places_put
+count-grows next t u memo grows right =
+    ap length (picked-none (is_put u.rows memo) (length t.rows) (length u.rows) (omega (arith, ap length grows.rows, length-append t.rows grows.more))
+    (λ i new there. grind (arith, right.full.right, within, is_put-none, cases_lt))
+    ∙ picked-same (is_put u.rows memo) (is_put t.rows memo) (length t.rows) (λ i there. grind (arith, right.full.right, by_level, is_put-none, cases_lt)))
+
+-- what is remembered elsewhere
+pub others : (k generations n r : ℕ) (old new : Memo) (i : ℕ) → IsRemembered k generations n r old new → i ≢ n - first_number → get_or new.full.items i 0 ≡ get_or old.full.items i 0
+others k generations n r old new i is other = grind (arith, cases_eq generations (2 ^ k))

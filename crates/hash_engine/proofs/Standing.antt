@@ -1,17 +1,16 @@
 -- Numbers that stand for squares in a table that grows, and squares that are added to it.
-use Rattle.std.proofs.Common.{◌≡◌, ℕ, zero, suc, ◌+◌, ◌<◌, ◌≤◌, List, [], ◌∷◌, length, get_or, drop, drop-cons, refl, ap, arith, sym, subst, lit<}
+use Rattle.std.proofs.Common.{◌≡◌, ℕ, zero, suc, ◌+◌, ◌<◌, ◌≤◌, List, [], ◌∷◌, length, get_or, drop, drop-cons, refl, ap, arith, sym, subst, lit<, inl}
 use Rattle.std.proofs.lemmas.List.{drop_all}
 use Rattle.worlds.specs.Square.{Square, one, four}
 use Rattle.square_table.specs.Squares.{Table, IsNumber, AreNumbers, square_in, square_of, kids_at, first_number, IsSquareOf, Grows, GrowsBy}
 use Rattle.square_table.proofs.Shared.Growth.{Grows-then, IsNumber-grows, square_in-grows, AreNumbers-grows, square_of-grows, IsNumber-joined, square_in-joined, AreNumbers-quadrants, square_in-quadrants, Grows-same}
 use Rattle.hash_life.specs.Puts.{fours_of, IsBelow, nine_of}
-use Rattle.hash_engine.specs.Standing.{StandsFor, StandForAll, IsReady}
-use Rattle.hash_life.proofs.Shared.Below.{Keeps, Puts-below}
+use Rattle.hash_engine.specs.Standing.{StandsFor, StandForAll}
 use Rattle.std.specs.Prelude.{Contains}
 use Rattle.std.proofs.lemmas.List.Elements.{All-nil, All-cons, All-contains, Contains-get_or}
 use Rattle.square_table.specs.Made.{Adds}
 use Rattle.square_table.proofs.Shared.Making.{Adds-joined}
-use Rattle.hash_engine.specs.Adding.{AddsFours}
+use Rattle.hash_engine.specs.Adding.{AddsOf, AddsFours}
 
 infixr 20 ◌⟫◌
 pub ◌⟫◌ : {t u v : Table} → Grows t u → Grows u v → Grows t v
@@ -110,15 +109,10 @@ overlap {rows} {k} {nine} {ss} are count =
     grind (arith, nine_at ss (one 0), are.count, at 0, at 1, at 2, at 3, at 4, at 5, at 6, at 7, at 8)
 
 -- a square with states has some
-below_some : (c : ℕ) (s : Square) → IsBelow c s → 0 < c
+pub below_some : (c : ℕ) (s : Square) → IsBelow c s → 0 < c
 unfolding IsBelow
 below_some c (one s) is = grind arith
 below_some c (four nw ne sw se) is = below_some c nw is.0
-
-pub IsReady-root : (next : List ℕ → ℕ) (c : ℕ) → Keeps c next → (rows : List (List ℕ)) (level k generations n m : ℕ) →
-    level ≡ suc (suc k) → m ≡ n → IsNumber rows level n → IsBelow c (square_in rows level n) → IsReady next c rows k generations m
-IsReady-root next c keeps rows level k generations n m is same numbered below =
-    grind (arith, Puts-below c next keeps (below_some c (square_in rows level n) below) k generations (square_in rows level n))
 
 Adds-none : (all : List Square) (t : Table) → Adds all t t
 Adds-none all t = record { grows = Grows-same t; among = λ those has are. are }
@@ -145,26 +139,32 @@ Adds-made {t} {u} {k} {kids} are grows step = more (Adds-none _ t) are (Contains
 listed : {all made : List Square} → all ≡ made → (j : ℕ) → j < length made → Contains all (get_or made j (one 0))
 listed {all} {made} is j low = subst (λ ss. Contains ss (get_or made j (one 0))) (sym is) (Contains-get_or made j (one 0) low)
 
+-- where a join adds no row
+pub unchanged : {t : Table} → Grows t t
+unchanged {t} = Grows-same t
+
+pub unchanged_by : {t : Table} (kids : List ℕ) → GrowsBy kids t t
+unchanged_by kids = inl refl
+
 -- the nine squares that overlap in one, of which five are joined of quadrants of its quadrants
-pub Adds-nine : {t u1 u2 u3 u4 u5 : Table} {k n : ℕ} {ks ws xs ys zs : List ℕ} {s : Square} → StandsFor t.rows (suc (suc k)) n s
-    → ks ≡ kids_at t.rows n → ws ≡ kids_at t.rows (get_or ks 0 0) → xs ≡ kids_at t.rows (get_or ks 1 0)
-    → ys ≡ kids_at t.rows (get_or ks 2 0) → zs ≡ kids_at t.rows (get_or ks 3 0)
+pub adds_nine : {t u1 u2 u3 u4 u5 : Table} {n : ℕ} {ks ws xs ys zs : List ℕ} → ks ≡ kids_at t.rows n
+    → ws ≡ kids_at t.rows (get_or ks 0 0) → xs ≡ kids_at t.rows (get_or ks 1 0) → ys ≡ kids_at t.rows (get_or ks 2 0) → zs ≡ kids_at t.rows (get_or ks 3 0)
     → Grows t u1 → GrowsBy (get_or ws 1 0 ∷ get_or xs 0 0 ∷ get_or ws 3 0 ∷ get_or xs 2 0 ∷ []) t u1
     → Grows u1 u2 → GrowsBy (get_or ws 2 0 ∷ get_or ws 3 0 ∷ get_or ys 0 0 ∷ get_or ys 1 0 ∷ []) u1 u2
     → Grows u2 u3 → GrowsBy (get_or ws 3 0 ∷ get_or xs 2 0 ∷ get_or ys 1 0 ∷ get_or zs 0 0 ∷ []) u2 u3
     → Grows u3 u4 → GrowsBy (get_or xs 2 0 ∷ get_or xs 3 0 ∷ get_or zs 0 0 ∷ get_or zs 1 0 ∷ []) u3 u4
-    → Grows u4 u5 → GrowsBy (get_or ys 1 0 ∷ get_or zs 0 0 ∷ get_or ys 3 0 ∷ get_or zs 2 0 ∷ []) u4 u5 → Adds (nine_of s) t u5
-Adds-nine {t} {u1} {u2} {u3} {u4} {u5} {k} {n} {ks} {ws} {xs} {ys} {zs} {s} whole is_k is_w is_x is_y is_z g1 s1 g2 s2 g3 s3 g4 s4 g5 s5 =
+    → Grows u4 u5 → GrowsBy (get_or ys 1 0 ∷ get_or zs 0 0 ∷ get_or ys 3 0 ∷ get_or zs 2 0 ∷ []) u4 u5 → AddsOf nine_of t n u5
+adds_nine {t} is_k is_w is_x is_y is_z g1 s1 g2 s2 g3 s3 g4 s4 g5 s5 k s whole =
     let q = sixteen whole is_k is_w is_x is_y is_z in
     let has = listed (ap nine_of q.is) in
     more (more (more (more (more (Adds-none (nine_of s) t) q.north (has 1 (omega arith)) g1 s1) q.west (has 3 (omega arith)) g2 s2)
     q.centre (has 4 (omega arith)) g3 s3) q.east (has 5 (omega arith)) g4 s4) q.south (has 7 (omega arith)) g5 s5
 
 -- four of nine, of which each is joined
-pub Adds-fours : {t u1 u2 u3 u4 : Table} {nine : List ℕ} → length nine ≡ 9 → Grows t u1 → GrowsBy (corner nine 0 1 3 4) t u1
+pub adds_fours : {t u1 u2 u3 u4 : Table} {nine : List ℕ} → length nine ≡ 9 → Grows t u1 → GrowsBy (corner nine 0 1 3 4) t u1
     → Grows u1 u2 → GrowsBy (corner nine 1 2 4 5) u1 u2 → Grows u2 u3 → GrowsBy (corner nine 3 4 6 7) u2 u3
     → Grows u3 u4 → GrowsBy (corner nine 4 5 7 8) u3 u4 → AddsFours t nine u4
-Adds-fours {t} {u1} {u2} {u3} {u4} {nine} count g1 s1 g2 s2 g3 s3 g4 s4 k ss are =
+adds_fours {t} count g1 s1 g2 s2 g3 s3 g4 s4 k ss are =
     let q = overlap are count in
     let has = listed q.is in
     more (more (more (more (Adds-none (fours_of ss) t) q.nw (has 0 (omega arith)) g1 s1) q.ne (has 1 (omega arith)) g2 s2)

@@ -27,6 +27,7 @@ pub struct Found<'a> {
 }
 
 // The result of a square of level 2, by the rule, which isn't asked for it again.
+#[tactic(auto, using(crate::proofs::Standing::above))]
 #[inline(never)]
 fn put<Q: Ask>(
     table: &mut SquareTable<'_>,
@@ -52,6 +53,7 @@ fn put<Q: Ask>(
 
 // The result of a square of level k + 2, remembered or not. Most are, so that the look-up stands in
 // the loop that asks for several, and what it leads to doesn't.
+#[tactic(auto, using(crate::proofs::Standing::above))]
 #[cycle(forward)]
 #[inline(always)]
 fn forward<Q: Ask, S: Stop>(

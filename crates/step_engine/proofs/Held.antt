@@ -15,7 +15,7 @@ use Rattle.square_table.proofs.Shared.Making.{within-made}
 use Rattle.hash_life.specs.Makes.{Makes}
 use Rattle.hash_life.proofs.Shared.Made.{Makes-weaker}
 use Rattle.hash_engine.specs.Asked.{is_four, picked, places_of_four}
-use Rattle.hash_engine.proofs.Shared.Puts.{is_four-two, is_four-more}
+use Rattle.hash_engine.proofs.Shared.{is_four-two, is_four-more}
 use Rattle.step_engine.specs.Evolved.{is_block, AreDifferent, AreReported}
 use Rattle.step_engine.specs.declared.evolved.Report.{Report}
 

@@ -5,7 +5,8 @@
 //! so it loses little where all of them are given up; a regular one lives by them. So a table begins
 //! small. Once it is full its squares are given up, and what the next leap makes, beside the leap
 //! before, shows whether that was cheap: then the table stays small, else the engine keeps as many as
-//! it may hold.
+//! it may hold. A leap that began without squares shows nothing of what they save, so the table grows
+//! where it hasn't room for such a leap and another one.
 
 use crate::pace::Leap;
 use plane_core::Plane;
@@ -24,6 +25,8 @@ pub(crate) struct Allowance {
     last: Leap,
     // The leap before the squares were given up, until another one shows what that cost.
     before: Option<Leap>,
+    // Whether the last leap was that other one, which began without squares.
+    is_cold: bool,
     // Whether it was cheap, and how often since more are kept.
     is_cheap: bool,
     times: u32,
@@ -57,6 +60,7 @@ impl Allowance {
             squares: 0,
             last: Leap { count: 0, made: 0 },
             before: None,
+            is_cold: false,
             is_cheap: false,
             times: 0,
         }
@@ -89,6 +93,9 @@ impl Allowance {
     /// wouldn't fit twice more.
     pub(crate) fn is_spent(&mut self, squares: u32, limit: u32) -> bool {
         let wanted = u64::from(squares) + 2 * u64::from(self.last.made);
+        if self.is_cold {
+            self.widen(wanted, limit);
+        }
         if wanted <= u64::from(self.most(limit)) {
             return false;
         }
@@ -96,11 +103,19 @@ impl Allowance {
         true
     }
 
+    // Keeps twice as many as are wanted, where that is more than so far.
+    fn widen(&mut self, wanted: u64, limit: u32) {
+        if wanted > u64::from(self.squares) {
+            self.squares = (2 * wanted).min(u64::from(limit)) as u32;
+        }
+    }
+
     /// Notes a leap of a plane.
     pub(crate) fn note(&mut self, plane: &Plane, leap: Leap, limit: u32) {
         if self.squares == 0 {
             self.squares = first_squares(plane, leap.made, limit);
         }
+        self.is_cold = self.before.is_some();
         if let Some(before) = self.before {
             self.before = None;
             self.learn(before, leap, limit);

@@ -79,12 +79,6 @@ forward-returns-then-ahead-eq0 g t c =
       asks = λ is. Asks-grown made.grows c.requires.right is.has;
     }
 
-pub forward-recall-requires-clause-number : goal.forward-recall-requires-clause-number
-forward-recall-requires-clause-number g t c = above _ (suc c.args.k) _ c.requires.ready.numbered
-
-pub forward-remember-requires-clause-number : goal.forward-remember-requires-clause-number
-forward-remember-requires-clause-number g t c = above _ (suc c.args.k) _ c.requires.ready.numbered
-
 pub forward-returns-in_err-remember-clause-keeps : goal.forward-returns-in_err-remember-clause-keeps
 forward-returns-in_err-remember-clause-keeps g t c =
     let made = c.in_ok-made.ensures in

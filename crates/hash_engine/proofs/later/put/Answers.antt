@@ -9,7 +9,7 @@ use Rattle.hash_engine.specs.Memo.{IsRight}
 use Rattle.hash_engine.specs.Search.{sought, Keeps, IsCounted}
 use Rattle.hash_engine.specs.declared.memo.Memo.{Memo}
 use Rattle.hash_engine.proofs.Standing.{above}
-use Rattle.hash_engine.proofs.Shared.Memos.{IsRight-grows}
+use Rattle.hash_engine.proofs.Shared.{IsRight-grows}
 use Rattle.hash_engine.proofs.Finding.{Keeps-noted, adds_result, IsFound-put, IsPut-noted, Asks-put}
 use Rattle.hash_engine.proofs.later.put.Goals as goal
 
@@ -26,9 +26,6 @@ asked n {next} {new} {c} {d} {ahead} {t} {u} {memo} some rule adds right =
 
 pub returns-in_err-made-clause-keeps : goal.returns-in_err-made-clause-keeps
 returns-in_err-made-clause-keeps g c = search (rules, asked)
-
-pub remember-requires-clause-number : goal.remember-requires-clause-number
-remember-requires-clause-number g c = above c.args.table.now.rows 1 c.args.number c.requires.ready.numbered
 
 pub returns-in_err-remember-clause-keeps : goal.returns-in_err-remember-clause-keeps
 returns-in_err-remember-clause-keeps g c =

@@ -1,8 +1,7 @@
-use Rattle.std.proofs.Common.{◌≡◌, refl, sym, subst, suc, length, inl, rules, ℕ, List}
-use Rattle.square_table.specs.Squares.{GrowsBy}
+use Rattle.std.proofs.Common.{◌≡◌, sym, subst, suc, length, rules}
 use Rattle.square_table.proofs.Shared.Growth.{Grows-same}
 use Rattle.hash_engine.specs.Standing.{StandForAll}
-use Rattle.hash_engine.proofs.Standing.{◌⟫◌, StandsFor-joined, overlap, StandForAll-nil, StandForAll-cons, Adds-fours}
+use Rattle.hash_engine.proofs.Standing.{◌⟫◌, StandsFor-joined, overlap, StandForAll-nil, StandForAll-cons, unchanged, unchanged_by, adds_fours}
 use Rattle.hash_engine.proofs.parts.fours.Goals as goal
 
 pub returns-clause-squares : goal.returns-clause-squares
@@ -22,24 +21,16 @@ returns-clause-squares c = λ k ss are.
 
 pub returns-in_err-ne-clause-adds : goal.returns-in_err-ne-clause-adds
 returns-in_err-ne-clause-adds c =
-    let count : length c.args.nine ≡ 9 = search rules in
-    let same = Grows-same c.join_guessed-2.new.self in
-    let none : (kids : List ℕ) → GrowsBy kids c.join_guessed-2.new.self c.join_guessed-2.new.self = λ kids. inl refl in
-    search (rules, Adds-fours)
+    adds_fours (search rules) c.in_ok-nw.ensures.grows c.in_ok-nw.ensures.one c.join_guessed-2.ensures.grows c.join_guessed-2.ensures.one unchanged (unchanged_by _) unchanged (unchanged_by _)
 
 pub returns-in_err-sw-clause-adds : goal.returns-in_err-sw-clause-adds
 returns-in_err-sw-clause-adds c =
-    let count : length c.args.nine ≡ 9 = search rules in
-    let same = Grows-same c.join_guessed-3.new.self in
-    let none : (kids : List ℕ) → GrowsBy kids c.join_guessed-3.new.self c.join_guessed-3.new.self = λ kids. inl refl in
-    search (rules, Adds-fours)
+    adds_fours (search rules) c.in_ok-nw.ensures.grows c.in_ok-nw.ensures.one c.in_ok-ne.ensures.grows c.in_ok-ne.ensures.one c.join_guessed-3.ensures.grows c.join_guessed-3.ensures.one unchanged (unchanged_by _)
 
 pub returns-in_err-se-clause-adds : goal.returns-in_err-se-clause-adds
 returns-in_err-se-clause-adds c =
-    let count : length c.args.nine ≡ 9 = search rules in
-    search (rules, Adds-fours)
+    adds_fours (search rules) c.in_ok-nw.ensures.grows c.in_ok-nw.ensures.one c.in_ok-ne.ensures.grows c.in_ok-ne.ensures.one c.in_ok-sw.ensures.grows c.in_ok-sw.ensures.one c.join_guessed-4.ensures.grows c.join_guessed-4.ensures.one
 
 pub returns-clause-adds : goal.returns-clause-adds
 returns-clause-adds c =
-    let count : length c.args.nine ≡ 9 = search rules in
-    search (rules, Adds-fours)
+    adds_fours (search rules) c.in_ok-nw.ensures.grows c.in_ok-nw.ensures.one c.in_ok-ne.ensures.grows c.in_ok-ne.ensures.one c.in_ok-sw.ensures.grows c.in_ok-sw.ensures.one c.in_ok-se.ensures.grows c.in_ok-se.ensures.one

@@ -1,9 +1,8 @@
-use Rattle.std.proofs.Common.{suc, sym, ap, subst, inl, refl, rules, ℕ, List}
-use Rattle.square_table.specs.Squares.{GrowsBy}
+use Rattle.std.proofs.Common.{suc, sym, ap, subst}
 use Rattle.square_table.proofs.Shared.Growth.{Grows-same}
 use Rattle.hash_life.specs.Puts.{nine_of}
 use Rattle.hash_engine.specs.Standing.{StandForAll}
-use Rattle.hash_engine.proofs.Standing.{◌⟫◌, StandsFor-grows, StandsFor-joined, sixteen, StandForAll-nil, StandForAll-cons, Adds-nine}
+use Rattle.hash_engine.proofs.Standing.{◌⟫◌, StandsFor-grows, StandsFor-joined, sixteen, StandForAll-nil, StandForAll-cons, unchanged, unchanged_by, adds_nine}
 use Rattle.hash_engine.proofs.parts.nine.Goals as goal
 
 pub returns-clause-squares : goal.returns-clause-squares
@@ -28,28 +27,29 @@ returns-clause-squares c = λ k s whole.
     StandForAll-nil)))))))))
 
 pub returns-in_err-west-clause-adds : goal.returns-in_err-west-clause-adds
-returns-in_err-west-clause-adds c = λ k s whole.
-    let same = Grows-same c.join_guessed-2.new.self in
-    let none : (kids : List ℕ) → GrowsBy kids c.join_guessed-2.new.self c.join_guessed-2.new.self = λ kids. inl refl in
-    search (rules, Adds-nine)
+returns-in_err-west-clause-adds c =
+    adds_nine c.quadrants.ensures c.quadrants-2.ensures c.quadrants-3.ensures c.quadrants-4.ensures c.quadrants-5.ensures c.in_ok-north.ensures.grows c.in_ok-north.ensures.one
+    c.join_guessed-2.ensures.grows c.join_guessed-2.ensures.one unchanged (unchanged_by _) unchanged (unchanged_by _) unchanged (unchanged_by _)
 
 pub returns-in_err-centre-clause-adds : goal.returns-in_err-centre-clause-adds
-returns-in_err-centre-clause-adds c = λ k s whole.
-    let same = Grows-same c.join_guessed-3.new.self in
-    let none : (kids : List ℕ) → GrowsBy kids c.join_guessed-3.new.self c.join_guessed-3.new.self = λ kids. inl refl in
-    search (rules, Adds-nine)
+returns-in_err-centre-clause-adds c =
+    adds_nine c.quadrants.ensures c.quadrants-2.ensures c.quadrants-3.ensures c.quadrants-4.ensures c.quadrants-5.ensures c.in_ok-north.ensures.grows c.in_ok-north.ensures.one
+    c.in_ok-west.ensures.grows c.in_ok-west.ensures.one c.join_guessed-3.ensures.grows c.join_guessed-3.ensures.one unchanged (unchanged_by _) unchanged (unchanged_by _)
 
 pub returns-in_err-east-clause-adds : goal.returns-in_err-east-clause-adds
-returns-in_err-east-clause-adds c = λ k s whole.
-    let same = Grows-same c.join_guessed-4.new.self in
-    let none : (kids : List ℕ) → GrowsBy kids c.join_guessed-4.new.self c.join_guessed-4.new.self = λ kids. inl refl in
-    search (rules, Adds-nine)
+returns-in_err-east-clause-adds c =
+    adds_nine c.quadrants.ensures c.quadrants-2.ensures c.quadrants-3.ensures c.quadrants-4.ensures c.quadrants-5.ensures c.in_ok-north.ensures.grows c.in_ok-north.ensures.one
+    c.in_ok-west.ensures.grows c.in_ok-west.ensures.one c.in_ok-centre.ensures.grows c.in_ok-centre.ensures.one c.join_guessed-4.ensures.grows c.join_guessed-4.ensures.one unchanged (unchanged_by _)
 
 pub returns-in_err-south-clause-adds : goal.returns-in_err-south-clause-adds
-returns-in_err-south-clause-adds c = λ k s whole. search (rules, Adds-nine)
+returns-in_err-south-clause-adds c =
+    adds_nine c.quadrants.ensures c.quadrants-2.ensures c.quadrants-3.ensures c.quadrants-4.ensures c.quadrants-5.ensures c.in_ok-north.ensures.grows c.in_ok-north.ensures.one
+    c.in_ok-west.ensures.grows c.in_ok-west.ensures.one c.in_ok-centre.ensures.grows c.in_ok-centre.ensures.one c.in_ok-east.ensures.grows c.in_ok-east.ensures.one c.join_guessed-5.ensures.grows c.join_guessed-5.ensures.one
 
 pub returns-clause-adds : goal.returns-clause-adds
-returns-clause-adds c = λ k s whole. search (rules, Adds-nine)
+returns-clause-adds c =
+    adds_nine c.quadrants.ensures c.quadrants-2.ensures c.quadrants-3.ensures c.quadrants-4.ensures c.quadrants-5.ensures c.in_ok-north.ensures.grows c.in_ok-north.ensures.one
+    c.in_ok-west.ensures.grows c.in_ok-west.ensures.one c.in_ok-centre.ensures.grows c.in_ok-centre.ensures.one c.in_ok-east.ensures.grows c.in_ok-east.ensures.one c.in_ok-south.ensures.grows c.in_ok-south.ensures.one
 
 pub returns-clause-grows : goal.returns-clause-grows
 returns-clause-grows c =

@@ -1,6 +1,6 @@
 use Rattle.std.proofs.Common.{◌^◌, get_or, arith}
 use Rattle.std.proofs.lemmas.Option.{IfSome_then}
-use Rattle.hash_engine.proofs.Shared.Memos.{recalled}
+use Rattle.hash_engine.proofs.Shared.{recalled}
 use Rattle.hash_engine.proofs.Finding.{recalled_put}
 use Rattle.hash_engine.proofs.memo.Memo.recall.Goals as goal
 
