@@ -25,8 +25,7 @@ use Rattle.hash_engine.specs.Found.{IsSameRule}
 use Rattle.hash_engine.proofs.Standing.{◌⟫◌, StandsFor-itself, StandsFor-grows, StandsFor-joined, Adds-made}
 
 -- the first i of the squares have their results, and the others are as they were
-pub record AreDone (next : List ℕ → ℕ) (k generations i : ℕ) (olds news : List ℕ) (t : Table) (old : Memo) (u : Table)
-    (new : Memo) : Type 0 where
+pub record AreDone (next : List ℕ → ℕ) (k generations i : ℕ) (olds news : List ℕ) (t : Table) (old : Memo) (u : Table) (new : Memo) : Type 0 where
   pub count : length news ≡ length olds
   pub found : FirstAreFound next (IsCounted next k generations t old) k generations i olds t u new news
   pub rest : (j d : ℕ) → i ≤ j → get_or news j d ≡ get_or olds j d

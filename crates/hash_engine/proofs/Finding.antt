@@ -171,25 +171,20 @@ module _ {t u : Table} {generations n r : ℕ} {old new : Memo} (one : 0 < gener
       (λ all on_way two. subst (Contains all) (sym same) (Puts-itself next generations (sought t 0 n) (Contains all) one on_way)))
 
 -- the table alone grew
-pub Keeps-made : {next : List ℕ → ℕ} {count : ℕ} {Way : (Square → Type 0) → Type 0} {t u : Table} {memo : Memo} →
-    Grows t u → IsRight next t.rows memo →
-    ((all : List Square) → Way (Contains all) → AreAmong all t.rows → AreAmong all u.rows) →
-    Keeps next next count count Way t u memo
+pub Keeps-made : {next : List ℕ → ℕ} {count : ℕ} {Way : (Square → Type 0) → Type 0} {t u : Table} {memo : Memo} → Grows t u → IsRight next t.rows memo →
+    ((all : List Square) → Way (Contains all) → AreAmong all t.rows → AreAmong all u.rows) → Keeps next next count count Way t u memo
 Keeps-made {next} {count} {Way} {t} {u} {memo} grows right adds = grind (arith, IsRight-grows next t u memo grows right)
 
 -- and then the table alone grew
 pub Keeps-grown : {next new : List ℕ → ℕ} {c d : ℕ} {Way : (Square → Type 0) → Type 0} {t u v : Table} {memo : Memo} →
-    Keeps next new c d Way t u memo → Grows u v →
-    ((all : List Square) → Way (Contains all) → AreAmong all u.rows → AreAmong all v.rows) →
-    Keeps next new c d Way t v memo
+    Keeps next new c d Way t u memo → Grows u v → ((all : List Square) → Way (Contains all) → AreAmong all u.rows → AreAmong all v.rows) → Keeps next new c d Way t v memo
 Keeps-grown {next} {new} {c} {d} {Way} {t} {u} {v} {memo} keeps grows adds =
     grind (arith, Grows-then, IsRight-grows next u v memo grows keeps.right)
 
 -- and then it went on with what is on the way
 pub Keeps-then : {next mid new : List ℕ → ℕ} {c d e : ℕ} {Way Rest : (Square → Type 0) → Type 0}
-    {t u v : Table} {memo more : Memo} → Keeps next mid c d Way t u memo →
-    ((all : List Square) → Way (Contains all) → Rest (Contains all)) → Keeps mid new d e Rest u v more →
-    Keeps next new c e Way t v more
+    {t u v : Table} {memo more : Memo} → Keeps next mid c d Way t u memo → ((all : List Square) → Way (Contains all) → Rest (Contains all)) →
+    Keeps mid new d e Rest u v more → Keeps next new c e Way t v more
 Keeps-then {next} {mid} {new} {c} {d} {e} {Way} {Rest} {t} {u} {v} {memo} {more} keeps rest then = grind (arith, Grows-then)
 
 -- a square that a number stands for is in the table
@@ -197,9 +192,8 @@ pub made_of : {rows : List (List ℕ)} {k n : ℕ} {s : Square} → StandsFor ro
 made_of {rows} {k} {n} {s} is = record { level = k; number = n; numbered = is.numbered; square = is.square }
 
 -- what adds the result alone adds what is on the way
-pub adds_result : (next : List ℕ → ℕ) (k generations : ℕ) (s : Square) {r : Square} {t u : Table} →
-    r ≡ result next k generations s → Adds (r ∷ []) t u → (all : List Square) →
-    Makes next k generations s (Contains all) → AreAmong all t.rows → AreAmong all u.rows
+pub adds_result : (next : List ℕ → ℕ) (k generations : ℕ) (s : Square) {r : Square} {t u : Table} → r ≡ result next k generations s → Adds (r ∷ []) t u →
+    (all : List Square) → Makes next k generations s (Contains all) → AreAmong all t.rows → AreAmong all u.rows
 adds_result next k generations s {r} {t} {u} is adds all way are = grind (arith, Makes-result, All-cons, All-nil)
 
 -- that of the root of a search can be sought
@@ -258,9 +252,8 @@ Keeps-noted {next} {new} {c} {d} {k} {generations} {n} {r} {Counted} {Way} {t} {
     record { rule = keeps.rule; grows = keeps.grows; right = stays next u.rows keeps.right is; adds = keeps.adds }
 
 -- where numbers stand for squares, what is found for them is of these
-pub StandForAll-found : {next : List ℕ → ℕ} {k generations : ℕ} {numbers found : List ℕ} {ss : List Square} {t u : Table}
-    {old new : Memo} → StandForAll t.rows (suc (suc k)) numbers ss → FindsForAll next k generations numbers t old u new found →
-    StandForAll u.rows (suc k) found (map (result next k generations) ss)
+pub StandForAll-found : {next : List ℕ → ℕ} {k generations : ℕ} {numbers found : List ℕ} {ss : List Square} {t u : Table} {old new : Memo} →
+    StandForAll t.rows (suc (suc k)) numbers ss → FindsForAll next k generations numbers t old u new found → StandForAll u.rows (suc k) found (map (result next k generations) ss)
 StandForAll-found {next} {k} {generations} {numbers} {found} {ss} {t} {u} are finds = record {
   count = finds.count ∙ are.count ∙ sym (length-map ss (result next k generations));
   each = λ j d e below.

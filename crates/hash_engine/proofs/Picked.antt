@@ -55,10 +55,6 @@ different-picked f p (suc n) differ =
     grind (arith, AllPairs-cons, here, different-picked f p n)
 
 -- one number more
-pub count-passed : (p : ℕ → Bool) (n : ℕ) → p n ≡ true → length (picked p (n + 1)) ≡ length (picked p n) + 1
+pub picked-next : (p : ℕ → Bool) (n : ℕ) → picked p (n + 1) ≡ cond (p n) (n ∷ picked p n) (picked p n)
 unfolding picked
-count-passed p n is = simp add-one (grind arith)
-
-pub count-failed : (p : ℕ → Bool) (n : ℕ) → p n ≡ false → length (picked p (n + 1)) ≡ length (picked p n)
-unfolding picked
-count-failed p n is = simp add-one (grind arith)
+picked-next p n = simp add-one refl

@@ -1,7 +1,7 @@
 use Rattle.std.proofs.Common.{◌+◌, arith, ℕ}
 use Rattle.square_table.specs.Squares.{first_number}
 use Rattle.hash_engine.specs.Asked.{is_four, is_put, picked, places_of_four, places_put}
-use Rattle.hash_engine.proofs.Picked.{count-passed, count-failed}
+use Rattle.hash_engine.proofs.Picked.{picked-next}
 use Rattle.hash_engine.proofs.counts.count_squares.Goals as goal
 use Rattle.hash_engine.proofs.counts.count_squares.Goals.{then-is_four+then-has_full, then-is_four+else-has_full, else-is_four}
 
@@ -15,7 +15,7 @@ loop-place-preserved c =
     let four = λ (j : ℕ). is_four c.args.table.now.rows (first_number + j) in
     let put = is_put c.args.table.now.rows c.args.memo.now in
     let i = c.loop-place.place in
-    grind (arith, count-passed four i, count-passed put i, count-failed four i, count-failed put i, c.if-is_four.branch)
+    grind (arith, picked-next four i, picked-next put i, c.if-is_four.branch)
 
 pub returns-clause-fours : goal.returns-clause-fours
 unfolding places_of_four
