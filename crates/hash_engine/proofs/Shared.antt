@@ -28,8 +28,8 @@ IsRight-grows next t u memo grows right =
     record { full = full; part = AreKnown-grows next (λ k. get_or memo.counts k 0) t u memo.part.items grows right.part }
 
 -- what stands at a square's place is its result
-pub recalled : (next : List ℕ → ℕ) (count : ℕ → ℕ) (rows : List (List ℕ)) (known : List ℕ) (k generations n r : ℕ) → generations ≡ count k → first_number ≤ n → 0 < r → get_or known (n - first_number) 0 ≡ r →
-    AreKnown next count rows known → IsNumber rows (suc (suc k)) n → IsResult next rows k generations n r
+pub recalled : (next : List ℕ → ℕ) (count : ℕ → ℕ) (rows : List (List ℕ)) (known : List ℕ) (k generations n r : ℕ) → generations ≡ count k → first_number ≤ n → 0 < r →
+    get_or known (n - first_number) 0 ≡ r → AreKnown next count rows known → IsNumber rows (suc (suc k)) n → IsResult next rows k generations n r
 recalled next count rows known k generations n r asked high some is are number =
     let place : first_number + (n - first_number) ≡ n = omega (arith, high) in
     let h = are.right (n - first_number) (omega (arith, some, is)) in
