@@ -80,17 +80,31 @@ impl Parts {
     }
 }
 
-// The cells by the quadrants of the square. The list that held them together is let go.
+// How many cells lie in each quadrant of a square.
+fn sizes(part: Part, cells: &[CellSet]) -> [usize; 4]
+    requires { IsOnPlane part × (1 ≤ part.level) }
+{
+    let mut sizes = [0usize; 4];
+    for cell in cells {
+        let q = part.quadrant_at(place_of(cell));
+        sizes[q] = sizes[q].saturating_add(1);
+    }
+    sizes
+}
+
+// The cells by the quadrants of the square, in lists of just their size. The list that held them
+// together is let go.
 fn parted(alloc: Global, part: Part, cells: Vec<CellSet>) -> Result<Parts, AllocError>
     requires square { IsOnPlane part × (1 ≤ part.level) }
     requires cells { All (IsCellOf part) cells.items }
     ensures { IfOk result (AreParted part cells.items) }
 {
+    let [nw, ne, sw, se] = sizes(part, &cells);
     let mut parts = Parts {
-        nw: Vec::new(alloc),
-        ne: Vec::new(alloc),
-        sw: Vec::new(alloc),
-        se: Vec::new(alloc),
+        nw: Vec::with_capacity(alloc, nw)?,
+        ne: Vec::with_capacity(alloc, ne)?,
+        sw: Vec::with_capacity(alloc, sw)?,
+        se: Vec::with_capacity(alloc, se)?,
     };
     for cell in &cells {
         parts.put(part.quadrant_at(place_of(cell)), *cell)?;
