@@ -43,7 +43,7 @@ fn complete(squares: &mut Vec<SquareRow>, row: SquareRow) -> Result<u32, AllocEr
     ensures number { IfOk result (λ n. (number_row row squares.old.items).number ≡ n) }
     ensures few { OnOk result (length squares.new.items < 2 ^ 32) }
 {
-    if row.kids == [0; 4] {
+    if is_same(&row.kids, &[0; 4]) {
         return Ok(0);
     }
     if squares.len() >= u32::MAX as usize {
