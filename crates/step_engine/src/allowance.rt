@@ -5,8 +5,8 @@
 //! so it loses little where all of them are given up; a regular one lives by them. So a table begins
 //! small. Once it is full its squares are given up, and what the next leap makes, beside the leap
 //! before, shows whether that was cheap: then the table stays small, else the engine keeps as many as
-//! it may hold. A leap that began without squares shows nothing of what they save, so the table grows
-//! where it hasn't room for such a leap and another one.
+//! it may hold. A table that one leap fills is kept for another as long, since only a leap that began
+//! with squares shows what they save.
 
 use crate::pace::Leap;
 use plane_core::Plane;
@@ -25,8 +25,10 @@ pub(crate) struct Allowance {
     last: Leap,
     // The leap before the squares were given up, until another one shows what that cost.
     before: Option<Leap>,
-    // Whether the last leap was that other one, which began without squares.
+    // Whether the last leap was that other one, which began without squares, and whether its squares
+    // are kept so that the next one shows what they save.
     is_cold: bool,
+    is_tried: bool,
     // Whether it was cheap, and how often since more are kept.
     is_cheap: bool,
     times: u32,
@@ -53,6 +55,13 @@ fn is_dear(before: Leap, now: Leap, spare: u32) -> bool {
     made.saturating_mul(u128::from(before.count)) > cheap.saturating_mul(u128::from(now.count))
 }
 
+// Whether a leap made less than half as many squares a generation as the one before, which began
+// without any.
+fn is_useful(before: Leap, now: Leap) -> bool {
+    let made = u128::from(now.made) * u128::from(before.count);
+    2 * made < u128::from(before.made) * u128::from(now.count)
+}
+
 impl Allowance {
     /// Of an engine that made no leap yet.
     pub(crate) fn new() -> Allowance {
@@ -61,6 +70,7 @@ impl Allowance {
             last: Leap { count: 0, made: 0 },
             before: None,
             is_cold: false,
+            is_tried: false,
             is_cheap: false,
             times: 0,
         }
@@ -89,25 +99,19 @@ impl Allowance {
         self.last.made
     }
 
-    /// Whether so many squares are to be given up before another leap: as many as the last one made
-    /// wouldn't fit twice more.
-    pub(crate) fn is_spent(&mut self, squares: u32, limit: u32) -> bool {
+    /// Whether so many squares are to be given up before a leap of so many generations: as many as the
+    /// last one made wouldn't fit twice more.
+    pub(crate) fn is_spent(&mut self, squares: u32, count: u64, limit: u32) -> bool {
         let wanted = u64::from(squares) + 2 * u64::from(self.last.made);
-        if self.is_cold {
-            self.widen(wanted, limit);
-        }
         if wanted <= u64::from(self.most(limit)) {
+            return false;
+        }
+        if self.is_cold && count >= self.last.count && wanted <= u64::from(limit) {
+            self.is_tried = true;
             return false;
         }
         self.before = Some(self.last);
         true
-    }
-
-    // Keeps twice as many as are wanted, where that is more than so far.
-    fn widen(&mut self, wanted: u64, limit: u32) {
-        if wanted > u64::from(self.squares) {
-            self.squares = (2 * wanted).min(u64::from(limit)) as u32;
-        }
     }
 
     /// Notes a leap of a plane.
@@ -115,6 +119,10 @@ impl Allowance {
         if self.squares == 0 {
             self.squares = first_squares(plane, leap.made, limit);
         }
+        if self.is_tried && is_useful(self.last, leap) {
+            self.squares = limit;
+        }
+        self.is_tried = false;
         self.is_cold = self.before.is_some();
         if let Some(before) = self.before {
             self.before = None;

@@ -214,7 +214,7 @@ impl<'a, R: Next> Engine<'a, R> {
             IsRoomSpent self.old.limit (R.meaning self.old.rule) plane.now generations }
     {
         let most = self.most();
-        if self.allowance.is_spent(self.table.len(), most) {
+        if self.allowance.is_spent(self.table.len(), generations, most) {
             self.give_up();
         }
         let before = self.table.len();
