@@ -6,7 +6,7 @@ use Rattle.bookmarks.specs.declared.view.View.{View}
 use Rattle.schedule.specs.declared.branch.Branch.{Branch}
 use Rattle.schedule.specs.declared.document.Bookmark.{Bookmark}
 use Rattle.schedule.specs.Plan.{Plan}
-use Rattle.schedule.specs.Asked.{Asked, InsertIntervention, ChangeIntervention, InsertRepeat, ChangeRepeat, RemoveIntervention, SetCells, ReplaceStart, ReplaceRule, AddBookmark, MoveBookmark, RemoveBookmark, AddBranch, RemoveBranch}
+use Rattle.schedule.specs.Asked.{Asked, AddBookmark, MoveBookmark, RemoveBookmark}
 use Rattle.schedule.specs.Change.{changed, next_bookmark}
 use Rattle.desk_events.specs.declared.mark.Mark.{Mark}
 use Rattle.dependency_book.specs.declared.row.RowState.{RowState}
@@ -71,17 +71,6 @@ module _ {V : Type 0} (p : Plan) (felt : Option Mark) (id : ℕ) (s : RowState V
       → stays_for (changed p asked).plan.branches felt (bookmark_in (changed p asked).plan.bookmarks id)
       (bookmark_in p.bookmarks id) s
       ≡ text_kept (changed p asked).plan.branches felt asked (bookmark_in p.bookmarks id) s
-  texts_stay (InsertIntervention branch g cells) so =
-      unmoved p.branches (InsertIntervention branch g cells) (λ b. refl)
-  texts_stay (ChangeIntervention i g cells) so = unmoved p.branches (ChangeIntervention i g cells) (λ b. refl)
-  texts_stay (InsertRepeat branch first every last cells) so =
-      unmoved p.branches (InsertRepeat branch first every last cells) (λ b. refl)
-  texts_stay (ChangeRepeat i first every last cells) so =
-      unmoved p.branches (ChangeRepeat i first every last cells) (λ b. refl)
-  texts_stay (RemoveIntervention i) so = unmoved p.branches (RemoveIntervention i) (λ b. refl)
-  texts_stay (SetCells cells) so = unmoved p.branches (SetCells cells) (λ b. refl)
-  texts_stay (ReplaceStart start) so = unmoved p.branches (ReplaceStart start) (λ b. refl)
-  texts_stay (ReplaceRule rule) so = unmoved p.branches (ReplaceRule rule) (λ b. refl)
   texts_stay (AddBookmark branch g view) so =
       let b : Bookmark = next_bookmark p branch g view in
       added_kept p.branches s felt branch g view (bookmark_in p.bookmarks id)
@@ -93,7 +82,4 @@ module _ {V : Type 0} (p : Plan) (felt : Option Mark) (id : ℕ) (s : RowState V
   texts_stay (RemoveBookmark i) so =
       rw (nowhere felt so, in_removed p.bookmarks i id)
       (removed_kept p.branches s i id (bookmark_in p.bookmarks id) (in_is p.bookmarks id))
-  texts_stay (AddBranch parent g) so =
-      unmoved (changed p (AddBranch parent g)).plan.branches (AddBranch parent g) (λ b. refl)
-  texts_stay (RemoveBranch n) so = unmoved (changed p (RemoveBranch n)).plan.branches (RemoveBranch n)
-      (λ b. refl)
+  texts_stay asked so = unmoved (changed p asked).plan.branches asked (λ b. refl)

@@ -6,7 +6,8 @@ use Rattle.std.proofs.lemmas.Bool.{and_right}
 use Rattle.worlds.specs.World.{Place, blank, entries-blank}
 use Rattle.worlds.specs.Live.{as_live, live, live-entries}
 use Rattle.schedule.specs.declared.fault.EditFault.TheVariants.{CellStateTooHigh}
-use Rattle.schedule.specs.Asked.{Asked, AddBookmark, InsertIntervention, RemoveIntervention, ReplaceRule, SetCells}
+use Rattle.schedule.specs.declared.acts.Acts.TheVariants.{Once}
+use Rattle.schedule.specs.Asked.{Asked, AddBookmark, Insert, RemoveIntervention, ReplaceRule, SetCells}
 use Rattle.schedule.specs.Change.{all_set_below, changed, first_refusal, refusal, spent, unless_refused}
 use Rattle.schedule.specs.History.{is_felt}
 use Rattle.schedule.specs.Plan.{opening}
@@ -108,10 +109,10 @@ is_worked = worked_then 0 arrived (after (issues (Step 0 8) (steps whole_way)) m
 -- an intervention is inserted; what arrives at generation 4 isn't known
 
 abbrev inserted : Configuration
-inserted = after_edit (InsertIntervention 0 4 origin) (Some (mark_at 0 4)) worked
+inserted = after_edit (Insert 0 (Once 4) origin) (Some (mark_at 0 4)) worked
 
 is_inserted : IsReached 0 inserted
-is_inserted = edited worked (InsertIntervention 0 4 origin) (Some (mark_at 0 4)) refl
+is_inserted = edited worked (Insert 0 (Once 4) origin) (Some (mark_at 0 4)) refl
     (record { rule = tt; felt_there = inr (λ h. h.0 4 refl (omega arith), refl) }) is_worked
 
 -- the late answer

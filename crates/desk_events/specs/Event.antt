@@ -2,7 +2,7 @@
 use Rattle.std.specs.Prelude.{◌≡◌, ℕ, ◌<◌, ◌≤◌, ◌++◌, List, [], ◌∷◌, length, slice_get, Option, None, Some, IfSome, Result, Ok, Err, if◌then◌else◌, ◌==◌, ⊤}
 use Rattle.rule_tree.specs.Rule.{states_of}
 use Rattle.schedule.specs.declared.fault.EditFault.{EditFault}
-use Rattle.schedule.specs.Asked.{Asked, InsertIntervention, ChangeIntervention, InsertRepeat, ChangeRepeat, RemoveIntervention, SetCells, ReplaceStart, ReplaceRule, AddBookmark, MoveBookmark, RemoveBookmark, AddBranch, RemoveBranch}
+use Rattle.schedule.specs.Asked.{Asked, ReplaceRule}
 use Rattle.schedule.specs.Change.{Changed, change, changed}
 use Rattle.schedule.specs.Plan.{Plan}
 use Rattle.revision_jobs.specs.Value.{Value, pattern}
@@ -72,19 +72,8 @@ after_event c (recalls mark number s) = put (step_to mark) (holds (pattern (worl
 
 -- a rule that is asked for has 2 to 256 states
 abbrev pub MayBeAsked : Asked → Type 0
-MayBeAsked (InsertIntervention branch generation cells) = ⊤
-MayBeAsked (ChangeIntervention id generation cells) = ⊤
-MayBeAsked (InsertRepeat branch first every last cells) = ⊤
-MayBeAsked (ChangeRepeat id first every last cells) = ⊤
-MayBeAsked (RemoveIntervention id) = ⊤
-MayBeAsked (SetCells cells) = ⊤
-MayBeAsked (ReplaceStart start) = ⊤
 MayBeAsked (ReplaceRule rule) = (2 ≤ states_of rule) × (states_of rule ≤ 256)
-MayBeAsked (AddBookmark branch generation view) = ⊤
-MayBeAsked (MoveBookmark id generation) = ⊤
-MayBeAsked (RemoveBookmark id) = ⊤
-MayBeAsked (AddBranch parent generation) = ⊤
-MayBeAsked (RemoveBranch branch) = ⊤
+MayBeAsked _ = ⊤
 
 -- an edit may be asked, and is felt from there
 pub record CanEdit (c : Core) (asked : Asked) (felt : Option Mark) : Type 0 where

@@ -10,7 +10,8 @@ use Rattle.table_lines.specs.declared.transition.Entry.TheVariants as entry
 use Rattle.table_lines.specs.declared.transition.Transition.{Transition}
 use Rattle.bookmarks.specs.declared.view.View.TheVariants.{Counts}
 use Rattle.bookmarks.specs.Counts.{counts_text}
-use Rattle.schedule.specs.Asked.{Asked, AddBookmark, InsertIntervention, RemoveIntervention, ReplaceRule, SetCells}
+use Rattle.schedule.specs.declared.acts.Acts.TheVariants.{Once}
+use Rattle.schedule.specs.Asked.{Asked, AddBookmark, Insert, RemoveIntervention, ReplaceRule, SetCells}
 use Rattle.schedule.specs.Change.{changed}
 use Rattle.desk_events.specs.declared.mark.Mark.{Mark}
 use Rattle.desk_events.specs.declared.need.Need.TheVariants.{Step, View}
@@ -87,7 +88,7 @@ worked =
 abbrev pub late : Configuration
 late =
     record (after (collects arrived)
-    (after_edit (InsertIntervention 0 4 origin) (Some (mark_at 0 4)) worked)) { answers = [] }
+    (after_edit (Insert 0 (Once 4) origin) (Some (mark_at 0 4)) worked)) { answers = [] }
 
 -- that answer came too late: it changes nothing, and the bookmark is pending
 pub record LateAnswer : Type 0 where
@@ -100,7 +101,7 @@ abbrev pub anew : Configuration
 anew =
     after (issues (Step 0 8) (steps whole_way)) (record (after (collects arrived)
     (after_edit (RemoveIntervention 1) (Some (mark_at 0 4))
-    (after_edit (InsertIntervention 0 4 origin) (Some (mark_at 0 4)) worked))) { answers = [] })
+    (after_edit (Insert 0 (Once 4) origin) (Some (mark_at 0 4)) worked))) { answers = [] })
 
 -- the old answer stays too late: job 1 is the same step
 pub record AnswerOfOld : Type 0 where

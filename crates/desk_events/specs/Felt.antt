@@ -5,13 +5,12 @@ use Rattle.worlds.specs.declared.cell.CellSet.{CellSet}
 use Rattle.worlds.specs.World.{World}
 use Rattle.worlds.specs.Lay.{lay}
 use Rattle.schedule.specs.declared.acts.Acts.{Acts}
-use Rattle.schedule.specs.declared.acts.Acts.TheVariants.{Once, Every}
 use Rattle.schedule.specs.declared.document.Intervention.{Intervention}
 use Rattle.schedule.specs.Acts.{acts_on, first_of}
 use Rattle.schedule.specs.Branches.{element_at, reach}
 use Rattle.schedule.specs.Ids.{intervention_id}
 use Rattle.schedule.specs.Plan.{Plan}
-use Rattle.schedule.specs.Asked.{Asked, InsertIntervention, ChangeIntervention, InsertRepeat, ChangeRepeat, RemoveIntervention, SetCells, ReplaceStart, ReplaceRule, AddBookmark, MoveBookmark, RemoveBookmark, AddBranch, RemoveBranch}
+use Rattle.schedule.specs.Asked.{Asked, Insert, Change, RemoveIntervention, SetCells, ReplaceStart, ReplaceRule}
 use Rattle.schedule.specs.Scratch.{cells_at}
 use Rattle.desk_events.specs.declared.mark.Mark.{Mark}
 use Rattle.desk_events.specs.declared.touched.Touched.{Touched}
@@ -34,38 +33,17 @@ intervention_at p id = element_at intervention_id p.interventions id
 -- the branch in which an edit changes what acts, and when that acts before the edit and after it,
 -- which is the same where the edit adds or removes it
 abbrev pub touched_by : Plan → Asked → Option Touched
-touched_by p (InsertIntervention branch generation cells) = Some (added branch (Once generation))
-touched_by p (ChangeIntervention id generation cells) =
-    option_map (moved (Once generation)) (intervention_at p id)
-touched_by p (InsertRepeat branch first every last cells) =
-    Some (added branch (Every first every last))
-touched_by p (ChangeRepeat id first every last cells) =
-    option_map (moved (Every first every last)) (intervention_at p id)
+touched_by p (Insert branch acts cells) = Some (added branch acts)
+touched_by p (Change id acts cells) = option_map (moved acts) (intervention_at p id)
 touched_by p (RemoveIntervention id) = option_map removed (intervention_at p id)
-touched_by p (SetCells cells) = None
-touched_by p (ReplaceStart start) = None
-touched_by p (ReplaceRule rule) = None
-touched_by p (AddBookmark branch generation view) = None
-touched_by p (MoveBookmark id generation) = None
-touched_by p (RemoveBookmark id) = None
-touched_by p (AddBranch parent generation) = None
-touched_by p (RemoveBranch branch) = None
+touched_by p _ = None
 
 -- whether an edit takes another start or another rule
 abbrev pub begins_anew : Asked → Bool
-begins_anew (InsertIntervention branch generation cells) = false
-begins_anew (ChangeIntervention id generation cells) = false
-begins_anew (InsertRepeat branch first every last cells) = false
-begins_anew (ChangeRepeat id first every last cells) = false
-begins_anew (RemoveIntervention id) = false
 begins_anew (SetCells cells) = true
 begins_anew (ReplaceStart start) = true
 begins_anew (ReplaceRule rule) = true
-begins_anew (AddBookmark branch generation view) = false
-begins_anew (MoveBookmark id generation) = false
-begins_anew (RemoveBookmark id) = false
-begins_anew (AddBranch parent generation) = false
-begins_anew (RemoveBranch branch) = false
+begins_anew _ = false
 
 -- the first mark at which what is touched acts, before an edit or after it
 abbrev pub first_touched : Touched → Mark

@@ -4,7 +4,7 @@ use Rattle.schedule.specs.declared.document.Bookmark.{Bookmark}
 use Rattle.schedule.specs.declared.branch.Branch.{Branch}
 use Rattle.schedule.specs.History.{is_felt}
 use Rattle.schedule.specs.Plan.{Plan}
-use Rattle.schedule.specs.Asked.{Asked, InsertIntervention, ChangeIntervention, InsertRepeat, ChangeRepeat, RemoveIntervention, SetCells, ReplaceStart, ReplaceRule, AddBookmark, MoveBookmark, RemoveBookmark, AddBranch, RemoveBranch}
+use Rattle.schedule.specs.Asked.{Asked, MoveBookmark, RemoveBookmark}
 use Rattle.desk_events.specs.declared.mark.Mark.{Mark}
 use Rattle.desk_events.specs.declared.need.Need.{Need}
 use Rattle.desk_events.specs.declared.need.Need.TheVariants.{Step, View}
@@ -27,19 +27,9 @@ leaves_after branches (Some from) m =
 
 -- whether an edit removes a bookmark or moves it to another generation
 abbrev pub takes : Asked → Bookmark → Bool
-takes (InsertIntervention branch generation cells) b = false
-takes (ChangeIntervention id generation cells) b = false
-takes (InsertRepeat branch first every last cells) b = false
-takes (ChangeRepeat id first every last cells) b = false
-takes (RemoveIntervention id) b = false
-takes (SetCells cells) b = false
-takes (ReplaceStart start) b = false
-takes (ReplaceRule rule) b = false
-takes (AddBookmark branch generation view) b = false
 takes (MoveBookmark id generation) b = b.id == id && not (b.generation == generation)
 takes (RemoveBookmark id) b = b.id == id
-takes (AddBranch parent generation) b = false
-takes (RemoveBranch branch) b = false
+takes _ b = false
 
 -- whether the text of a bookmark is kept after an edit that is felt from a mark on
 abbrev pub keeps_text : List Branch → Option Mark → Asked → Bookmark → Bool

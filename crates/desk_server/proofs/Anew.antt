@@ -25,9 +25,11 @@ use Rattle.script_lines.specs.Words.{is_word, words}
 use Rattle.worlds.specs.declared.cell.CellSet.{CellSet}
 use Rattle.bookmarks.specs.declared.view.View.{View}
 use Rattle.bookmarks.specs.declared.view.View.TheVariants as view
+use Rattle.schedule.specs.declared.acts.Acts.{Acts}
+use Rattle.schedule.specs.declared.acts.Acts.TheVariants.{Once, Every}
 use Rattle.schedule.specs.declared.edit.Edit.{Edit}
 use Rattle.schedule.specs.declared.edit.Edit.TheVariants as edit
-use Rattle.schedule.specs.Asked.{Asked, asked_of, AddBookmark, AddBranch, InsertIntervention, InsertRepeat}
+use Rattle.schedule.specs.Asked.{Asked, asked_of, AddBookmark, AddBranch, Insert}
 use Rattle.schedule.specs.Asked.{RemoveBookmark, RemoveBranch, RemoveIntervention}
 use Rattle.desk_server.specs.Numbers.{coordinate, up_to}
 use Rattle.desk_server.specs.View.{alone, view_of}
@@ -36,7 +38,7 @@ use Rattle.desk_server.specs.Command.{format_of_words}
 use Rattle.desk_server.specs.Listed.{view_words}
 use Rattle.desk_server.specs.Scripted.{cell_words, edit_line}
 use Rattle.desk_server.specs.Script.{Between, asked_by, asks}
-use Rattle.desk_server.specs.Anew.{AreWritten, EditLinesReadBack, IsCount, IsWrittenCell, IsWrittenView, ReadsBack}
+use Rattle.desk_server.specs.Anew.{AreCounts, AreWritten, EditLinesReadBack, IsCount, IsWrittenCell, IsWrittenView, ReadsBack}
 use Rattle.desk_server.specs.declared.command.Command.TheVariants as command
 use Rattle.desk_server.proofs.Hearing.{asks-command}
 
@@ -295,10 +297,10 @@ bookmark-line b generation v h k w =
     (grind (arith, counts, view-read))
 
 -- what is inserted
-once-line : (b generation : ℕ) (cs : List CellSet) → IsCount b → IsCount generation → AreWritten cs
-    → ReadsBack (InsertIntervention b generation cs)
-once-line b generation cs h k w =
-    reads (InsertIntervention b generation cs)
+insert-line : (b : ℕ) (acts : Acts) (cs : List CellSet) → IsCount b → AreCounts acts → AreWritten cs
+    → ReadsBack (Insert b acts cs)
+insert-line b (Once generation) cs h k w =
+    reads (Insert b (Once generation) cs)
     (codes "on" ∷ decimal b ∷ codes "at" ∷ decimal generation ∷ codes "set" ∷ words_of_cells cs)
     (edit.InsertIntervention b generation cs)
     (line-more (codes "on") _ _ (letters (codes "on") (omega arith) refl)
@@ -307,12 +309,9 @@ once-line b generation cs h k w =
     (line-more (decimal generation) _ _ (number generation k) (set-line cs w)))))
     refl refl refl
     (grind (arith, counts, set-read))
-
-every-line : (b first every last : ℕ) (cs : List CellSet) → IsCount b → IsCount first → IsCount every → IsCount last
-    → AreWritten cs → ReadsBack (InsertRepeat b first every last cs)
-every-line b first every last cs h i j k w =
+insert-line b (Every first every last) cs h k w =
     let behind = 32 ∷ (codes "set" ++ (flat_map cell_words cs ++ codes "\n")) in
-    reads (InsertRepeat b first every last cs)
+    reads (Insert b (Every first every last) cs)
     (codes "on" ∷ decimal b ∷ codes "every" ∷ decimal every ∷ decimal first ∷ decimal last ∷ codes "set"
     ∷ words_of_cells cs)
     (edit.InsertRepeat b first every last cs)
@@ -321,12 +320,12 @@ every-line b first every last cs h i j k w =
     (line-more (codes "every") _ _ (letters (codes "every") (omega arith) refl)
     (subst (λ v. IsLineOf v (decimal every ∷ decimal first ∷ decimal last ∷ codes "set" ∷ words_of_cells cs))
     (sym (three (decimal every) (decimal first) (decimal last) behind))
-    (line-more (decimal every) _ _ (number every j)
-    (line-more (decimal first) _ _ (number first i)
-    (line-more (decimal last) _ _ (number last k) (set-line cs w))))))))
+    (line-more (decimal every) _ _ (number every k.1)
+    (line-more (decimal first) _ _ (number first k.0)
+    (line-more (decimal last) _ _ (number last k.2) (set-line cs w))))))))
     refl refl refl
     (grind (arith, counts, set-read))
 
 pub lines_read_back : EditLinesReadBack
 lines_read_back asked h = grind
-    (arith, bookmark-line, branch-line, drop-line, every-line, once-line, unbranch-line, unmark-line)
+    (arith, bookmark-line, branch-line, drop-line, insert-line, unbranch-line, unmark-line)

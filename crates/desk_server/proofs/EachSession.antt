@@ -3,11 +3,8 @@ use Rattle.std.proofs.Common.{◌<◌, ◌==◌, not, List, [], ◌∷◌, lengt
 use Rattle.std.specs.List.{AllByRecursion}
 use Rattle.basics.proofs.Shared.Lists.{all_append, all_so}
 use Rattle.text_lines.specs.Lines.{Ended, lines_until}
-use Rattle.schedule.specs.declared.acts.Acts.TheVariants.{Once, Every}
 use Rattle.schedule.specs.declared.document.Intervention.{Intervention}
-use Rattle.schedule.specs.Asked.{Asked, InsertIntervention}
-use Rattle.schedule.specs.Asked.{InsertRepeat}
-use Rattle.schedule.specs.Asked.{RemoveIntervention, ChangeIntervention, ChangeRepeat}
+use Rattle.schedule.specs.Asked.{Asked, Insert, Change, RemoveIntervention}
 use Rattle.schedule.specs.Change.{acting, changed, next_intervention}
 use Rattle.schedule.specs.Plan.{Plan, opening}
 use Rattle.schedule.proofs.Shared.Changed.{HasStates}
@@ -29,15 +26,10 @@ abbrev AllStand : Plan → Type 0
 AllStand p = AllByRecursion CanStand p.interventions
 
 stand-step : (p : Plan) (asked : Asked) → SetsSome asked → AllStand p → AllStand (changed p asked).plan
-stand-step p (InsertIntervention b generation cells) h k =
-    all_append CanStand p.interventions (next_intervention p b (Once generation) cells ∷ []) k ((h, tt), tt)
-stand-step p (ChangeIntervention id generation cells) h k =
-    each_map CanStand (λ (i : Intervention). i.id == id) (acting (Once generation) cells) p.interventions (λ i _. (h, tt)) k
-stand-step p (InsertRepeat b first every last cells) h k =
-    all_append CanStand p.interventions (next_intervention p b (Every first every last) cells ∷ []) k ((h.1, h.0), tt)
-stand-step p (ChangeRepeat id first every last cells) h k =
-    each_map CanStand (λ (i : Intervention). i.id == id) (acting (Every first every last) cells) p.interventions
-    (λ i _. (h.1, h.0)) k
+stand-step p (Insert b acts cells) h k =
+    all_append CanStand p.interventions (next_intervention p b acts cells ∷ []) k (h, tt)
+stand-step p (Change id acts cells) h k =
+    each_map CanStand (λ (i : Intervention). i.id == id) (acting acts cells) p.interventions (λ i _. h) k
 stand-step p (RemoveIntervention id) h k =
     each_filter CanStand (λ (i : Intervention). not (i.id == id)) p.interventions k
 stand-step p asked h k = k

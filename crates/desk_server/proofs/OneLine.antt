@@ -23,7 +23,7 @@ use Rattle.schedule.specs.declared.fault.EditFault.{EditFault}
 use Rattle.schedule.specs.declared.edit.Edit.{Edit}
 use Rattle.schedule.specs.declared.edit.Edit.TheVariants as edit
 use Rattle.schedule.specs.Acts.{first_of}
-use Rattle.schedule.specs.Asked.{Asked, asked_of, InsertIntervention, ChangeIntervention, InsertRepeat, ChangeRepeat, ReplaceStart, ReplaceRule, AddBranch}
+use Rattle.schedule.specs.Asked.{Asked, asked_of, Insert, Change, ReplaceStart, ReplaceRule, AddBranch}
 use Rattle.schedule.specs.Change.{Changed, changed, refusal, unless_refused}
 use Rattle.schedule.specs.Plan.{Plan, opening}
 use Rattle.schedule.specs.Sound.{IsSound, IsPlaced}
@@ -31,7 +31,7 @@ use Rattle.schedule.proofs.Sounds.{IsSound-opening}
 use Rattle.schedule.proofs.Shared.Changed.{HasStates, sound_changed, some_changed}
 use Rattle.schedule.proofs.Shared.Lines.{one_line}
 use Rattle.worlds.specs.declared.cell.CellSet.{CellSet}
-use Rattle.desk_server.specs.Anew.{IsCount}
+use Rattle.desk_server.specs.Anew.{IsCount, IsCounted}
 use Rattle.desk_server.specs.declared.interventions.Repeated.{Repeated}
 use Rattle.desk_server.specs.declared.format.Format.{Format}
 use Rattle.desk_server.specs.declared.format.Format.TheVariants as format
@@ -54,10 +54,8 @@ AddsNone _ = ⊤
 
 -- it sets a cell if it sets cells of interventions, at a distance of 64 bits if they repeat
 abbrev pub SetsSome : Asked → Type 0
-SetsSome (InsertIntervention b generation cells) = 0 < length cells
-SetsSome (ChangeIntervention id generation cells) = 0 < length cells
-SetsSome (InsertRepeat b first every last cells) = IsCount every × (0 < length cells)
-SetsSome (ChangeRepeat id first every last cells) = IsCount every × (0 < length cells)
+SetsSome (Insert b acts cells) = (0 < length cells) × IsCounted acts
+SetsSome (Change id acts cells) = (0 < length cells) × IsCounted acts
 SetsSome _ = ⊤
 
 -- nor does it take a rule

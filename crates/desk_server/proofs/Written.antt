@@ -31,13 +31,13 @@ use Rattle.schedule.specs.declared.branch.Branch.{Branch}
 use Rattle.schedule.specs.declared.document.Bookmark.{Bookmark}
 use Rattle.schedule.specs.declared.document.Intervention.{Intervention}
 use Rattle.schedule.specs.Acts.{IsTimely, first_of}
-use Rattle.schedule.specs.Asked.{Asked}
+use Rattle.schedule.specs.Asked.{Asked, Insert}
 use Rattle.schedule.specs.Branches.{has_branch}
 use Rattle.schedule.specs.Ids.{bookmark_id, branch_id, has_id, intervention_id}
 use Rattle.schedule.specs.Plan.{Plan}
 use Rattle.schedule.specs.Sound.{AreMarked, AreNamed, ArePlaced, IsAllowed, IsForked, IsPlaced, IsSound, SetBelow}
 use Rattle.document_replay.specs.Replay.{add_all, add_bookmark, add_branch, add_intervention, bookmark_edits}
-use Rattle.document_replay.specs.Replay.{branch_edits, ids_between, insert, intervention_edits, row_edits}
+use Rattle.document_replay.specs.Replay.{branch_edits, ids_between, intervention_edits, row_edits}
 use Rattle.document_replay.specs.Replay.{skip_bookmark, skip_branch, skip_intervention}
 use Rattle.desk_server.specs.Anew.{AreWritten, CanBeWritten, HasText, IsCount, IsCounted, IsWritten, IsWrittenCell}
 use Rattle.desk_server.specs.Anew.{IsWrittenView}
@@ -90,7 +90,7 @@ cells-written n (c ∷ cs) few named below =
     (cell-written n c few named.0 below.0, cells-written n cs few named.1 below.1)
 
 insert-written : (b : ℕ) (acts : Acts) (cs : List CellSet) → IsCount b → IsTimely acts → IsCounted acts → AreWritten cs
-    → IsWritten (insert b acts cs)
+    → IsWritten (Insert b acts cs)
 insert-written b acts cs small timely counted cells = grind (arith)
 
 -- a view within its limits

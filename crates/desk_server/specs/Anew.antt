@@ -15,7 +15,7 @@ use Rattle.bookmarks.specs.declared.view.View.TheVariants.{Window}
 use Rattle.schedule.specs.declared.acts.Acts.{Acts}
 use Rattle.schedule.specs.declared.acts.Acts.TheVariants.{Once, Every}
 use Rattle.schedule.specs.declared.document.Intervention.{Intervention}
-use Rattle.schedule.specs.Asked.{Asked, AddBookmark, AddBranch, InsertIntervention, InsertRepeat}
+use Rattle.schedule.specs.Asked.{Asked, AddBookmark, AddBranch, Insert}
 use Rattle.schedule.specs.Asked.{RemoveBookmark, RemoveBranch, RemoveIntervention, asked_of}
 use Rattle.schedule.specs.declared.edit.Edit.{Edit}
 use Rattle.schedule.specs.Plan.{Plan, opening}
@@ -50,16 +50,18 @@ IsWrittenView (Window left top width height) =
     FitsSigned w64 left × FitsSigned w64 top × (width < 2 ^ 32) × (height < 2 ^ 32)
 IsWrittenView _ = Unit {0}
 
+-- the generations that say when it acts have 64 bits, and so has the distance
+abbrev pub AreCounts : Acts → Type 0
+AreCounts (Once generation) = IsCount generation
+AreCounts (Every first every last) = IsCount first × IsCount every × IsCount last
+
 -- an edit that a line writes: its numbers have these bits, and it sets a cell if it sets cells
 abbrev pub IsWritten : Asked → Type 0
 IsWritten (AddBranch parent generation) = IsCount parent × IsCount generation
 IsWritten (RemoveBranch id) = IsCount id
 IsWritten (AddBookmark b generation view) = IsCount b × IsCount generation × IsWrittenView view
 IsWritten (RemoveBookmark id) = IsCount id
-IsWritten (InsertIntervention b generation cells) =
-    IsCount b × IsCount generation × AreWritten cells
-IsWritten (InsertRepeat b first every last cells) =
-    IsCount b × IsCount first × IsCount every × IsCount last × AreWritten cells
+IsWritten (Insert b acts cells) = IsCount b × AreCounts acts × AreWritten cells
 IsWritten (RemoveIntervention id) = IsCount id
 IsWritten _ = ⊥
 

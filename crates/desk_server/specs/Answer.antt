@@ -9,7 +9,7 @@ use Rattle.multistate_macrocell.specs.Pattern as macrocells
 use Rattle.schedule.specs.declared.fault.EditFault.TheVariants.{NoMemory, NoSuchBookmark}
 use Rattle.schedule.specs.declared.document.Bookmark.{Bookmark}
 use Rattle.schedule.specs.Plan.{Plan, opening}
-use Rattle.schedule.specs.Asked.{Asked, asked_of, InsertIntervention, InsertRepeat, ReplaceStart, ReplaceRule, AddBookmark, AddBranch}
+use Rattle.schedule.specs.Asked.{Asked, asked_of, Insert, ReplaceStart, ReplaceRule, AddBookmark, AddBranch}
 use Rattle.schedule.specs.Change.{Changed, change}
 use Rattle.schedule.specs.Scratch.{scratch}
 use Rattle.desk_events.specs.Wanted.{bookmark_in}
@@ -74,8 +74,7 @@ accepted c word number =
 
 -- the word before the id that an edit gives, if it gives one
 abbrev pub id_word : Asked → List ℕ
-id_word (InsertIntervention b generation cells) = codes " intervention "
-id_word (InsertRepeat b first every last cells) = codes " intervention "
+id_word (Insert b acts cells) = codes " intervention "
 id_word (AddBookmark b generation view) = codes " bookmark "
 id_word (AddBranch parent generation) = codes " branch "
 id_word _ = []

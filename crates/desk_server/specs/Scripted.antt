@@ -6,9 +6,8 @@ use Rattle.worlds.specs.declared.cell.CellSet.{CellSet}
 use Rattle.multistate_macrocell.specs.PatternText.{macrocell_text}
 use Rattle.rule_tree.specs.Rule.{name_of}
 use Rattle.schedule.specs.declared.acts.Acts.{Acts}
-use Rattle.schedule.specs.declared.acts.Acts.TheVariants.{Once, Every}
 use Rattle.schedule.specs.Plan.{Plan}
-use Rattle.schedule.specs.Asked.{Asked, AddBookmark, AddBranch, InsertIntervention, InsertRepeat}
+use Rattle.schedule.specs.Asked.{Asked, AddBookmark, AddBranch, Insert}
 use Rattle.schedule.specs.Asked.{RemoveBookmark, RemoveBranch, RemoveIntervention}
 use Rattle.document_replay.specs.Replay.{row_edits}
 use Rattle.desk_server.specs.Listed.{acts_words, view_words}
@@ -36,8 +35,7 @@ edit_line (AddBookmark b generation view) =
     ++ (decimal b
     ++ (codes " mark " ++ (decimal generation ++ (codes " " ++ (view_words view ++ codes "\n")))))
 edit_line (RemoveBookmark id) = codes "unmark " ++ (decimal id ++ codes "\n")
-edit_line (InsertIntervention b generation cells) = insert_line b (Once generation) cells
-edit_line (InsertRepeat b first every last cells) = insert_line b (Every first every last) cells
+edit_line (Insert b acts cells) = insert_line b acts cells
 edit_line (RemoveIntervention id) = codes "drop " ++ (decimal id ++ codes "\n")
 edit_line _ = []
 

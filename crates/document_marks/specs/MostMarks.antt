@@ -1,9 +1,9 @@
 -- At most how many marks a document has besides the start, now and after an edit.
-use Rattle.std.specs.Prelude.{ℕ, ◌+◌, ◌*◌, length, Bool, true, false, ◌||◌, if◌then◌else◌}
+use Rattle.std.specs.Prelude.{ℕ, ◌+◌, ◌*◌, length, Bool, false, ◌||◌, if◌then◌else◌}
 use Rattle.std.specs.List.{list_any}
 use Rattle.schedule.specs.declared.document.Intervention.{Intervention}
 use Rattle.schedule.specs.Acts.{repeats}
-use Rattle.schedule.specs.Asked.{Asked, InsertIntervention, ChangeIntervention, InsertRepeat, ChangeRepeat, RemoveIntervention, SetCells, ReplaceStart, ReplaceRule, AddBookmark, MoveBookmark, RemoveBookmark, AddBranch, RemoveBranch}
+use Rattle.schedule.specs.Asked.{Asked, Insert, Change}
 use Rattle.schedule.specs.Plan.{Plan}
 use Rattle.schedule.specs.Repeats.{most_marks, repeat_marks}
 
@@ -15,19 +15,9 @@ marks_at_most p =
 
 -- whether something may repeat in a document after an edit
 abbrev pub asks_to_repeat : Asked → Bool
-asks_to_repeat (InsertIntervention branch generation cells) = false
-asks_to_repeat (ChangeIntervention id generation cells) = false
-asks_to_repeat (InsertRepeat branch first every last cells) = true
-asks_to_repeat (ChangeRepeat id first every last cells) = true
-asks_to_repeat (RemoveIntervention id) = false
-asks_to_repeat (SetCells cells) = false
-asks_to_repeat (ReplaceStart start) = false
-asks_to_repeat (ReplaceRule rule) = false
-asks_to_repeat (AddBookmark branch generation view) = false
-asks_to_repeat (MoveBookmark id generation) = false
-asks_to_repeat (RemoveBookmark id) = false
-asks_to_repeat (AddBranch parent generation) = false
-asks_to_repeat (RemoveBranch branch) = false
+asks_to_repeat (Insert branch acts cells) = repeats acts
+asks_to_repeat (Change id acts cells) = repeats acts
+asks_to_repeat _ = false
 
 -- at most how many marks repeating interventions make after an edit
 abbrev pub most_repeats : Plan → Asked → ℕ

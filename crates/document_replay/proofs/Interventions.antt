@@ -1,5 +1,5 @@
 -- The edits that insert the interventions of a document, or skip ids, aren't refused.
-use Rattle.std.proofs.Common.{true, ◌≡◌, ℕ, ◌+◌, ◌<◌, ◌≤◌, ◌^◌, false, List, [], ◌∷◌, ◌++◌, length, nat_lt, refl, sym, ap, ap₂, ◌∙◌, arith, None, pos}
+use Rattle.std.proofs.Common.{true, ◌≡◌, ℕ, ◌+◌, ◌<◌, ◌≤◌, ◌^◌, false, List, [], ◌∷◌, ◌++◌, length, nat_lt, refl, sym, ap, ap₂, arith, None, pos}
 use Rattle.std.specs.List.{AllByRecursion, sum_by}
 use Rattle.std.proofs.lemmas.List.Sums.{sum_by-append, sum_by-cons, sum_by_push}
 use Rattle.std.proofs.lemmas.Bool.Decides.{nat_tests}
@@ -10,9 +10,9 @@ use Rattle.schedule.specs.declared.acts.Acts.{Acts}
 use Rattle.schedule.specs.declared.acts.Acts.TheVariants.{Once}
 use Rattle.schedule.specs.declared.document.Intervention.{Intervention}
 use Rattle.schedule.specs.Acts.{IsTimely, first_of, marks_to}
-use Rattle.schedule.specs.Asked.{InsertIntervention, RemoveIntervention}
+use Rattle.schedule.specs.Asked.{Insert, RemoveIntervention}
 use Rattle.schedule.specs.Branches.{reach}
-use Rattle.schedule.specs.Change.{acts_too_far, changed, first_refusal, for_intervention, is_bad_repeat, may_be_named, next_intervention, refusal, stay_in_range, with_intervention}
+use Rattle.schedule.specs.Change.{acts_too_far, is_bad_repeat, may_be_named, next_intervention, refusal, stay_in_range, with_intervention}
 use Rattle.schedule.specs.Ids.{bookmark_id, intervention_id}
 use Rattle.schedule.specs.Plan.{Plan}
 use Rattle.schedule.specs.Repeats.{repeat_marks}
@@ -20,7 +20,7 @@ use Rattle.schedule.specs.Sound.{IsAllowed, IsPlaced, IsSound}
 use Rattle.schedule.proofs.Shared.Branches.{fork_of-zero}
 use Rattle.schedule.proofs.Each.{all_pass}
 use Rattle.document_replay.specs.Law.{IsMade, Lead, last_id}
-use Rattle.document_replay.specs.Replay.{add_intervention, insert, skip_intervention}
+use Rattle.document_replay.specs.Replay.{add_intervention, skip_intervention}
 use Rattle.document_replay.proofs.Branches.{few_marks}
 use Rattle.document_replay.proofs.Bookmarks.{with_bookmarks}
 use Rattle.document_replay.proofs.Elements.{at_cut, fewer_before, there_last, without_last}
@@ -37,15 +37,6 @@ with_interventions p k done last = record (with_bookmarks p k p.bookmarks (last_
 -- the tests of when it acts
 timely : (acts : Acts) → IsTimely acts → (acts_too_far acts ≡ false) × (is_bad_repeat acts ≡ false)
 timely acts h = grind (arith, nat_tests)
-
--- an insertion, by what it says
-insert_free : (q : Plan) (b : ℕ) (acts : Acts) (cells : List CellSet)
-    → first_refusal (for_intervention q b acts cells) ≡ None → refusal q (insert b acts cells) ≡ None
-insert_free q b acts cells h = grind arith
-
-insert_makes : (q : Plan) (b : ℕ) (acts : Acts) (cells : List CellSet)
-    → (with_intervention q b acts cells).plan ≡ (changed q (insert b acts cells)).plan
-insert_makes q b acts cells = grind arith
 
 -- there are no more marks than those of the document
 marks_before : (p : Plan) → IsSound p → (done : List Intervention) (x : Intervention) (rest : List Intervention)
@@ -76,12 +67,9 @@ add_one p sound made done x rest k last is next left =
     all_pass may_be_named _ x.cells (λ c h. named c.x c.y h) allowed.named in
     let below = all_pass (λ (c : CellSet). nat_lt c.state (states_of p.rule)) _ x.cells
     (λ c h. grind (arith, nat_tests)) allowed.below in
-    let free : first_refusal (for_intervention q x.branch x.acts x.cells) ≡ None =
-    grind (arith, nat_tests, placed.there, placed.from_fork, tests, few, small, named, below, marks) in (
-      insert_free q x.branch x.acts x.cells free,
-      ap (λ n. with_interventions p (k + 1) (done ++ (record x { id = n }) ∷ []) n) (sym next)
-          ∙ insert_makes q x.branch x.acts x.cells,
-    )
+    let free : refusal q (add_intervention x) ≡ None =
+    grind (arith, nat_tests, placed.there, placed.from_fork, tests, few, small, named, below, marks) in
+    (free, ap (λ n. with_interventions p (k + 1) (done ++ (record x { id = n }) ∷ []) n) (sym next))
 
 abbrev origin : List CellSet
 origin = record { x = pos 0; y = pos 0; state = 0 } ∷ []
@@ -100,7 +88,7 @@ skip_one p sound done x rest k last is gap given left =
     let root = fork_of-zero p.branches sound.branches_sound.forked in
     let few = fewer_before p.interventions done x rest 4096 is sound.few_interventions in
     let some = some_states p sound in
-    let free : refusal q (InsertIntervention 0 0 origin) ≡ None = grind (arith, nat_tests, root, few, some) in
+    let free : refusal q (Insert 0 (Once 0) origin) ≡ None = grind (arith, nat_tests, root, few, some) in
     let there = there_last intervention_id done y (last + 1) refl in
     let gone : refusal r (RemoveIntervention (last + 1)) ≡ None = grind (arith, nat_tests, there) in
     (free, (gone, ap₂ (λ a bs. with_interventions p a bs (last + 1)) (omega arith) (sym kept)))

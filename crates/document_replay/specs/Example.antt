@@ -5,8 +5,8 @@ use Rattle.worlds.specs.World.{blank}
 use Rattle.worlds.specs.Lay.{lay}
 use Rattle.rule_tree.specs.Rule.{still}
 use Rattle.bookmarks.specs.declared.view.View.TheVariants.{Counts}
-use Rattle.schedule.specs.declared.acts.Acts.TheVariants.{Every}
-use Rattle.schedule.specs.Asked.{Asked, InsertIntervention, InsertRepeat, RemoveIntervention, SetCells, ReplaceStart, ReplaceRule, AddBookmark, RemoveBookmark, AddBranch, RemoveBranch}
+use Rattle.schedule.specs.declared.acts.Acts.TheVariants.{Once, Every}
+use Rattle.schedule.specs.Asked.{Asked, Insert, RemoveIntervention, SetCells, ReplaceStart, ReplaceRule, AddBookmark, RemoveBookmark, AddBranch, RemoveBranch}
 use Rattle.schedule.specs.Plan.{Plan, opening}
 use Rattle.schedule.specs.Sound.{IsSound}
 use Rattle.document_replay.specs.Law.{Lead}
@@ -24,7 +24,7 @@ edits_once =
     ∷ AddBranch 0 2 ∷ AddBranch 0 4 ∷ RemoveBranch 1
     ∷ AddBookmark 0 1 Counts ∷ AddBookmark 2 8 Counts ∷ AddBookmark 0 3 Counts
     ∷ RemoveBookmark 1 ∷ RemoveBookmark 3
-    ∷ InsertIntervention 0 0 (origin 0) ∷ InsertRepeat 2 5 2 9 (origin 1) ∷ RemoveIntervention 1
+    ∷ Insert 0 (Once 0) (origin 0) ∷ Insert 2 (Every 5 2 9) (origin 1) ∷ RemoveIntervention 1
     ∷ []
 
 -- what comes of it: one branch, one bookmark and one intervention that repeats, each of id 2
@@ -48,7 +48,7 @@ edits_anew =
     ReplaceRule still ∷ ReplaceStart (lay (origin 1) blank)
     ∷ AddBranch 0 0 ∷ RemoveBranch 1 ∷ AddBranch 0 4
     ∷ AddBookmark 0 0 Counts ∷ RemoveBookmark 1 ∷ AddBookmark 2 8 Counts
-    ∷ InsertIntervention 0 0 (origin 0) ∷ RemoveIntervention 1 ∷ InsertRepeat 2 5 2 9 (origin 1)
+    ∷ Insert 0 (Once 0) (origin 0) ∷ RemoveIntervention 1 ∷ Insert 2 (Every 5 2 9) (origin 1)
     ∷ []
 
 -- the document keeps its limits, comes of those edits and has revisions left, and the edits for it

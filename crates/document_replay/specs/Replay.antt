@@ -1,14 +1,12 @@
 -- The edits by which the opening document becomes another one.
 use Rattle.std.specs.Prelude.{ℕ, ◌+◌, ◌-◌, pos, List, [], ◌∷◌, ◌++◌, flat_map}
 use Rattle.std.specs.List.{range_with_len}
-use Rattle.worlds.specs.declared.cell.CellSet.{CellSet}
 use Rattle.bookmarks.specs.declared.view.View.TheVariants.{Counts}
 use Rattle.schedule.specs.declared.document.Intervention.{Intervention}
 use Rattle.schedule.specs.declared.document.Bookmark.{Bookmark}
 use Rattle.schedule.specs.declared.branch.Branch.{Branch}
-use Rattle.schedule.specs.declared.acts.Acts.{Acts}
-use Rattle.schedule.specs.declared.acts.Acts.TheVariants.{Once, Every}
-use Rattle.schedule.specs.Asked.{Asked, InsertIntervention, InsertRepeat, RemoveIntervention, ReplaceStart, ReplaceRule, AddBookmark, RemoveBookmark, AddBranch, RemoveBranch}
+use Rattle.schedule.specs.declared.acts.Acts.TheVariants.{Once}
+use Rattle.schedule.specs.Asked.{Asked, Insert, RemoveIntervention, ReplaceStart, ReplaceRule, AddBookmark, RemoveBookmark, AddBranch, RemoveBranch}
 use Rattle.schedule.specs.Ids.{intervention_id, bookmark_id, branch_id}
 use Rattle.schedule.specs.Plan.{Plan}
 
@@ -20,14 +18,9 @@ add_branch x = AddBranch x.parent x.fork
 abbrev pub add_bookmark : Bookmark → Asked
 add_bookmark b = AddBookmark b.branch b.generation b.view
 
--- the one that inserts into a branch what acts then, with these cells
-abbrev pub insert : ℕ → Acts → List CellSet → Asked
-insert b (Once generation) cells = InsertIntervention b generation cells
-insert b (Every first every last) cells = InsertRepeat b first every last cells
-
 -- the one that inserts such an intervention
 abbrev pub add_intervention : Intervention → Asked
-add_intervention i = insert i.branch i.acts i.cells
+add_intervention i = Insert i.branch i.acts i.cells
 
 -- the edits that skip an id of branches: one is added, which gets it, and is removed
 abbrev pub skip_branch : ℕ → List Asked
@@ -40,7 +33,7 @@ skip_bookmark id = AddBookmark 0 0 Counts ∷ RemoveBookmark id ∷ []
 -- those that skip one of interventions
 abbrev pub skip_intervention : ℕ → List Asked
 skip_intervention id =
-    InsertIntervention 0 0 (record { x = pos 0; y = pos 0; state = 0 } ∷ [])
+    Insert 0 (Once 0) (record { x = pos 0; y = pos 0; state = 0 } ∷ [])
     ∷ RemoveIntervention id ∷ []
 
 -- the ids above one and below another

@@ -4,9 +4,8 @@ use Rattle.std.specs.Prelude.{◌==◌, if◌then◌else◌, flat_map}
 use Rattle.std.proofs.lemmas.Grind.{flat_map-append}
 use Rattle.worlds.specs.declared.cell.CellSet.{CellSet}
 use Rattle.schedule.specs.declared.acts.Acts.{Acts}
-use Rattle.schedule.specs.declared.acts.Acts.TheVariants.{Once, Every}
 use Rattle.schedule.specs.declared.document.Intervention.{Intervention}
-use Rattle.schedule.specs.Asked.{Asked, InsertIntervention, ChangeIntervention, InsertRepeat, ChangeRepeat, RemoveIntervention, SetCells, ReplaceStart, ReplaceRule, AddBookmark, MoveBookmark, RemoveBookmark, AddBranch, RemoveBranch}
+use Rattle.schedule.specs.Asked.{Asked, Insert, Change, RemoveIntervention}
 use Rattle.schedule.specs.Change.{acting, changed, next_intervention}
 use Rattle.schedule.specs.Ids.{intervention_id, changed_at, without}
 use Rattle.schedule.specs.Plan.{Plan}
@@ -40,18 +39,7 @@ left_cells (i ∷ is) id m =
 
 pub cells_after-is : (p : Plan) (asked : Asked) (m : Mark) → cells_after asked p.interventions m ≡ cells_of
     (changed p asked).plan.interventions m
-cells_after-is p (InsertIntervention branch g cells) m = inserted_cells p branch (Once g) cells m
-cells_after-is p (ChangeIntervention id g cells) m = append-nil _ ∙ changed_cells p.interventions id (Once g) cells m
-cells_after-is p (InsertRepeat branch first every last cells) m =
-    inserted_cells p branch (Every first every last) cells m
-cells_after-is p (ChangeRepeat id first every last cells) m =
-    append-nil _ ∙ changed_cells p.interventions id (Every first every last) cells m
+cells_after-is p (Insert branch acts cells) m = inserted_cells p branch acts cells m
+cells_after-is p (Change id acts cells) m = append-nil _ ∙ changed_cells p.interventions id acts cells m
 cells_after-is p (RemoveIntervention id) m = append-nil _ ∙ left_cells p.interventions id m
-cells_after-is p (SetCells cells) m = append-nil _
-cells_after-is p (ReplaceStart start) m = append-nil _
-cells_after-is p (ReplaceRule rule) m = append-nil _
-cells_after-is p (AddBookmark branch g view) m = append-nil _
-cells_after-is p (MoveBookmark id g) m = append-nil _
-cells_after-is p (RemoveBookmark id) m = append-nil _
-cells_after-is p (AddBranch parent g) m = append-nil _
-cells_after-is p (RemoveBranch n) m = append-nil _
+cells_after-is p asked m = append-nil _

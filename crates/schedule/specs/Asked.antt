@@ -5,18 +5,18 @@ use Rattle.worlds.specs.declared.cell.CellSet.{CellSet}
 use Rattle.worlds.specs.World.{World}
 use Rattle.rule_tree.specs.declared.rule.Rule.{Rule}
 use Rattle.bookmarks.specs.declared.view.View.{View}
+use Rattle.schedule.specs.declared.acts.Acts.{Acts}
+use Rattle.schedule.specs.declared.acts.Acts.TheVariants.{Once, Every}
 use Rattle.schedule.specs.declared.edit.Edit.{Edit}
 use Rattle.schedule.specs.declared.edit.Edit.TheVariants as edit
 
--- an intervention that acts once, or one that repeats, is inserted into a branch, or put in the
--- place of the one of an id; one is removed by its id; cells of the start are set; another start or
--- rule is taken; a bookmark is added to a branch, or moved or removed by its id; a branch is added
--- to a parent at a generation, or removed
+-- an intervention that acts then, with these cells, is inserted into a branch, or put in the place
+-- of the one of an id; one is removed by its id; cells of the start are set; another start or rule
+-- is taken; a bookmark is added to a branch, or moved or removed by its id; a branch is added to a
+-- parent at a generation, or removed
 pub data Asked : Type 0 where
-  InsertIntervention : ℕ → ℕ → List CellSet → Asked
-  ChangeIntervention : ℕ → ℕ → List CellSet → Asked
-  InsertRepeat : ℕ → ℕ → ℕ → ℕ → List CellSet → Asked
-  ChangeRepeat : ℕ → ℕ → ℕ → ℕ → List CellSet → Asked
+  Insert : ℕ → Acts → List CellSet → Asked
+  Change : ℕ → Acts → List CellSet → Asked
   RemoveIntervention : ℕ → Asked
   SetCells : List CellSet → Asked
   ReplaceStart : World → Asked
@@ -29,12 +29,11 @@ pub data Asked : Type 0 where
 
 -- what an edit asks for
 abbrev pub asked_of : Edit → Asked
-asked_of (edit.InsertIntervention branch generation cells) =
-    InsertIntervention branch generation cells
-asked_of (edit.ChangeIntervention id generation cells) = ChangeIntervention id generation cells
+asked_of (edit.InsertIntervention branch generation cells) = Insert branch (Once generation) cells
+asked_of (edit.ChangeIntervention id generation cells) = Change id (Once generation) cells
 asked_of (edit.InsertRepeat branch first every last cells) =
-    InsertRepeat branch first every last cells
-asked_of (edit.ChangeRepeat id first every last cells) = ChangeRepeat id first every last cells
+    Insert branch (Every first every last) cells
+asked_of (edit.ChangeRepeat id first every last cells) = Change id (Every first every last) cells
 asked_of (edit.RemoveIntervention id) = RemoveIntervention id
 asked_of (edit.SetCells cells) = SetCells cells
 asked_of (edit.ReplaceStart start) = ReplaceStart (arc_value start)

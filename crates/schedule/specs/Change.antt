@@ -15,7 +15,7 @@ use Rattle.schedule.specs.declared.fault.EditFault.TheVariants.{GenerationTooFar
 use Rattle.bookmarks.specs.declared.view.View.{View}
 use Rattle.bookmarks.specs.Within.{has_window_size, lies_in_range}
 use Rattle.schedule.specs.Plan.{Plan}
-use Rattle.schedule.specs.Asked.{Asked, InsertIntervention, ChangeIntervention, InsertRepeat, ChangeRepeat, RemoveIntervention, SetCells, ReplaceStart, ReplaceRule, AddBookmark, MoveBookmark, RemoveBookmark, AddBranch, RemoveBranch}
+use Rattle.schedule.specs.Asked.{Asked, Insert, Change, RemoveIntervention, SetCells, ReplaceStart, ReplaceRule, AddBookmark, MoveBookmark, RemoveBookmark, AddBranch, RemoveBranch}
 use Rattle.schedule.specs.Acts.{repeats, first_of}
 use Rattle.schedule.specs.Repeats.{has_too_many_marks}
 use Rattle.schedule.specs.declared.acts.Acts.{Acts}
@@ -345,13 +345,8 @@ for_removed_branch p b =
 
 -- those of an edit
 abbrev pub refusals : Plan → Asked → List (Bool × EditFault)
-refusals p (InsertIntervention b generation cells) = for_intervention p b (Once generation) cells
-refusals p (ChangeIntervention id generation cells) =
-    for_changed_intervention p id (Once generation) cells
-refusals p (InsertRepeat b first every last cells) =
-    for_intervention p b (Every first every last) cells
-refusals p (ChangeRepeat id first every last cells) =
-    for_changed_intervention p id (Every first every last) cells
+refusals p (Insert b acts cells) = for_intervention p b acts cells
+refusals p (Change id acts cells) = for_changed_intervention p id acts cells
 refusals p (RemoveIntervention id) = for_removed_intervention p id
 refusals p (SetCells cells) = for_cells p cells
 refusals p (ReplaceStart start) = for_start p start
@@ -379,13 +374,8 @@ refusal p asked = first_refusal (refusals p asked)
 
 -- what an edit makes of a document that it fits
 abbrev pub changed : Plan → Asked → Changed
-changed p (InsertIntervention b generation cells) = with_intervention p b (Once generation) cells
-changed p (ChangeIntervention id generation cells) =
-    with_changed_intervention p id (Once generation) cells
-changed p (InsertRepeat b first every last cells) =
-    with_intervention p b (Every first every last) cells
-changed p (ChangeRepeat id first every last cells) =
-    with_changed_intervention p id (Every first every last) cells
+changed p (Insert b acts cells) = with_intervention p b acts cells
+changed p (Change id acts cells) = with_changed_intervention p id acts cells
 changed p (RemoveIntervention id) = without_intervention p id
 changed p (SetCells cells) = changed_cells p cells
 changed p (ReplaceStart start) = changed_start p start

@@ -7,10 +7,9 @@ use Rattle.std.specs.Option.{option_map}
 use Rattle.std.proofs.lemmas.Grind.{flat_map-append}
 use Rattle.worlds.specs.declared.cell.CellSet.{CellSet}
 use Rattle.schedule.specs.declared.acts.Acts.{Acts}
-use Rattle.schedule.specs.declared.acts.Acts.TheVariants.{Once, Every}
 use Rattle.schedule.specs.declared.document.Intervention.{Intervention}
 use Rattle.schedule.specs.Acts.{acts_on, first_of}
-use Rattle.schedule.specs.Asked.{Asked, InsertIntervention, ChangeIntervention, InsertRepeat, ChangeRepeat, RemoveIntervention}
+use Rattle.schedule.specs.Asked.{Asked, Insert, Change, RemoveIntervention}
 use Rattle.schedule.specs.Branches.{element_at}
 use Rattle.schedule.specs.Change.{acting, changed, next_intervention}
 use Rattle.schedule.specs.Ids.{IdsRise, changed_at, intervention_id, without}
@@ -96,14 +95,10 @@ untouched_removed (i ∷ is) id rise =
 -- so it is with every edit
 pub untouched : (p : Plan) (asked : Asked) → IsSound p
     → SameUntouched p.interventions (changed p asked).plan.interventions (touched_by p asked)
-untouched p (InsertIntervention branch generation cells) sound =
-    untouched_inserted p.interventions (next_intervention p branch (Once generation) cells)
-untouched p (ChangeIntervention id generation cells) sound =
-    untouched_changed p.interventions id (Once generation) cells sound.interventions_rise
-untouched p (InsertRepeat branch first every last cells) sound =
-    untouched_inserted p.interventions (next_intervention p branch (Every first every last) cells)
-untouched p (ChangeRepeat id first every last cells) sound =
-    untouched_changed p.interventions id (Every first every last) cells sound.interventions_rise
+untouched p (Insert branch acts cells) sound =
+    untouched_inserted p.interventions (next_intervention p branch acts cells)
+untouched p (Change id acts cells) sound =
+    untouched_changed p.interventions id acts cells sound.interventions_rise
 untouched p (RemoveIntervention id) sound = untouched_removed p.interventions id sound.interventions_rise
 untouched p asked sound = refl
 

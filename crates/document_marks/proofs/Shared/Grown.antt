@@ -12,7 +12,7 @@ use Rattle.schedule.specs.declared.document.Intervention.{Intervention}
 use Rattle.schedule.specs.declared.edit.Edited.{Edited}
 use Rattle.schedule.specs.declared.fault.EditFault.{EditFault}
 use Rattle.schedule.specs.Acts.{marks_to, repeats}
-use Rattle.schedule.specs.Asked.{Asked, InsertIntervention, ChangeIntervention, InsertRepeat, ChangeRepeat, RemoveIntervention, SetCells, ReplaceStart, ReplaceRule, AddBookmark, MoveBookmark, RemoveBookmark, AddBranch, RemoveBranch}
+use Rattle.schedule.specs.Asked.{Asked, Insert, Change, RemoveIntervention, SetCells, ReplaceStart, ReplaceRule, AddBookmark, MoveBookmark, RemoveBookmark, AddBranch, RemoveBranch}
 use Rattle.schedule.specs.Branches.{reach}
 use Rattle.schedule.specs.Change.{Changed, change, changed, made, refusal, unless_refused}
 use Rattle.schedule.specs.Ids.{intervention_id, changed_at, without}
@@ -69,10 +69,8 @@ record Grows (p q : Plan) (repeats : Bool) : Type 0 where
   pub once : repeats ≡ false → NoneRepeats p.interventions → NoneRepeats q.interventions
 
 grows : (p : Plan) (asked : Asked) → Grows p (changed p asked).plan (asks_to_repeat asked)
-grows p (InsertIntervention branch generation cells) = search (arith, more, none_more)
-grows p (ChangeIntervention id generation cells) = search (arith, other, none_other)
-grows p (InsertRepeat branch first every last cells) = search (arith, more)
-grows p (ChangeRepeat id first every last cells) = search (arith, other)
+grows p (Insert branch acts cells) = search (arith, more, none_more)
+grows p (Change id acts cells) = search (arith, other, none_other)
 grows p (RemoveIntervention id) = search (arith, less, none_less)
 grows p (SetCells cells) = search arith
 grows p (ReplaceStart start) = search arith

@@ -6,11 +6,10 @@ use Rattle.std.proofs.lemmas.List.{length-map}
 use Rattle.basics.proofs.Shared.Lists.{all_append}
 use Rattle.worlds.specs.declared.cell.CellSet.{CellSet}
 use Rattle.schedule.specs.declared.acts.Acts.{Acts}
-use Rattle.schedule.specs.declared.acts.Acts.TheVariants.{Once, Every}
 use Rattle.schedule.specs.declared.document.Intervention.{Intervention}
 use Rattle.schedule.specs.declared.document.Bookmark.{Bookmark}
 use Rattle.schedule.specs.declared.branch.Branch.{Branch}
-use Rattle.schedule.specs.Asked.{Asked, InsertIntervention, ChangeIntervention, InsertRepeat, ChangeRepeat}
+use Rattle.schedule.specs.Asked.{Asked, Insert, Change}
 use Rattle.schedule.specs.Asked.{RemoveIntervention, AddBookmark, MoveBookmark}
 use Rattle.schedule.specs.Asked.{RemoveBookmark, AddBranch, RemoveBranch}
 use Rattle.schedule.specs.Change.{acting, changed, marking, next_bookmark, next_branch, next_intervention, refusal}
@@ -100,14 +99,10 @@ numbered_acting p id acts cells h few =
 -- an edit that isn't refused keeps that
 pub numbered_step : (p : Plan) (asked : Asked) → IsNumbered p → refusal p asked ≡ None
     → IsNumbered (changed p asked).plan
-numbered_step p (InsertIntervention b generation cells) h free =
-    numbered_inserted p b (Once generation) cells h (fit_insertion p b (Once generation) cells free).set.few
-numbered_step p (ChangeIntervention id generation cells) h free =
-    numbered_acting p id (Once generation) cells h (fit_change p id (Once generation) cells free).set.few
-numbered_step p (InsertRepeat b first every last cells) h free =
-    numbered_inserted p b (Every first every last) cells h (fit_insertion p b (Every first every last) cells free).set.few
-numbered_step p (ChangeRepeat id first every last cells) h free =
-    numbered_acting p id (Every first every last) cells h (fit_change p id (Every first every last) cells free).set.few
+numbered_step p (Insert b acts cells) h free =
+    numbered_inserted p b acts cells h (fit_insertion p b acts cells free).set.few
+numbered_step p (Change id acts cells) h free =
+    numbered_acting p id acts cells h (fit_change p id acts cells free).set.few
 numbered_step p (RemoveIntervention id) h free =
     let long = length-without intervention_id p.interventions id h.interventions.rise in
     let listed = numbered_without intervention_id p.interventions id p.last_intervention h.interventions in

@@ -1,8 +1,7 @@
 -- A document that an edit changes keeps its limits.
 use Rattle.std.specs.Prelude.{◌≡◌, ◌<◌, ◌≤◌, None, ⊤}
 use Rattle.rule_tree.specs.Rule.{states_of}
-use Rattle.schedule.specs.Asked.{Asked, InsertIntervention, ChangeIntervention, InsertRepeat, ChangeRepeat, RemoveIntervention, SetCells, ReplaceStart, ReplaceRule, AddBookmark, MoveBookmark, RemoveBookmark, AddBranch, RemoveBranch}
-use Rattle.schedule.specs.declared.acts.Acts.TheVariants.{Once, Every}
+use Rattle.schedule.specs.Asked.{Asked, Insert, Change, RemoveIntervention, SetCells, ReplaceStart, ReplaceRule, AddBookmark, MoveBookmark, RemoveBookmark, AddBranch, RemoveBranch}
 use Rattle.schedule.specs.Change.{changed, refusal}
 use Rattle.schedule.specs.Plan.{Plan}
 use Rattle.schedule.specs.Sound.{IsSound}
@@ -16,14 +15,8 @@ HasStates _ = ⊤
 
 pub sound_changed : (p : Plan) (asked : Asked) → IsSound p → 0 < states_of p.rule → HasStates asked
     → refusal p asked ≡ None → IsSound (changed p asked).plan
-sound_changed p (InsertIntervention b generation cells) sound some has free =
-    IsSound-intervention p b (Once generation) cells sound free
-sound_changed p (ChangeIntervention id generation cells) sound some has free =
-    IsSound-changed_intervention p id (Once generation) cells sound free
-sound_changed p (InsertRepeat b first every last cells) sound some has free =
-    IsSound-intervention p b (Every first every last) cells sound free
-sound_changed p (ChangeRepeat id first every last cells) sound some has free =
-    IsSound-changed_intervention p id (Every first every last) cells sound free
+sound_changed p (Insert b acts cells) sound some has free = IsSound-intervention p b acts cells sound free
+sound_changed p (Change id acts cells) sound some has free = IsSound-changed_intervention p id acts cells sound free
 sound_changed p (RemoveIntervention id) sound some has free = IsSound-removed_intervention p id sound
 sound_changed p (SetCells cells) sound some has free = IsSound-cells p cells sound free
 sound_changed p (ReplaceStart start) sound some has free = IsSound-start p start sound free some

@@ -4,8 +4,7 @@ use Rattle.std.proofs.Common.{◌≡◌, ℕ, ◌≤◌, None}
 use Rattle.std.specs.Prelude.{All}
 use Rattle.worlds.specs.Range.{CanBeLaid}
 use Rattle.rule_tree.specs.Rule.{states_of}
-use Rattle.schedule.specs.Asked.{Asked, InsertIntervention, ChangeIntervention, InsertRepeat, ChangeRepeat, RemoveIntervention, AddBookmark, MoveBookmark, RemoveBookmark, AddBranch, RemoveBranch}
-use Rattle.schedule.specs.declared.acts.Acts.TheVariants.{Once, Every}
+use Rattle.schedule.specs.Asked.{Asked, Insert, Change, RemoveIntervention, AddBookmark, MoveBookmark, RemoveBookmark, AddBranch, RemoveBranch}
 use Rattle.schedule.specs.Change.{changed, first_refusal, refusals}
 use Rattle.schedule.specs.Repeats.{repeat_marks}
 use Rattle.schedule.specs.Plan.{Plan}
@@ -23,18 +22,10 @@ CanBeLaid-at p b g sound = CanBeLaid-named (states_of p.rule) (cells_at p.interv
 -- and those after an edit
 pub CanBeLaid-changed : (p : Plan) (asked : Asked) (b g : ℕ) → IsSound p → first_refusal (refusals p asked) ≡ None
     → All CanBeLaid (cells_at (changed p asked).plan.interventions b g)
-CanBeLaid-changed p (InsertIntervention n generation cells) b g sound free =
-    CanBeLaid-at (changed p (InsertIntervention n generation cells)).plan b g
-    (IsSound-intervention p n (Once generation) cells sound free)
-CanBeLaid-changed p (ChangeIntervention id generation cells) b g sound free =
-    CanBeLaid-at (changed p (ChangeIntervention id generation cells)).plan b g
-    (IsSound-changed_intervention p id (Once generation) cells sound free)
-CanBeLaid-changed p (InsertRepeat n first every last cells) b g sound free =
-    CanBeLaid-at (changed p (InsertRepeat n first every last cells)).plan b g
-    (IsSound-intervention p n (Every first every last) cells sound free)
-CanBeLaid-changed p (ChangeRepeat id first every last cells) b g sound free =
-    CanBeLaid-at (changed p (ChangeRepeat id first every last cells)).plan b g
-    (IsSound-changed_intervention p id (Every first every last) cells sound free)
+CanBeLaid-changed p (Insert n acts cells) b g sound free =
+    CanBeLaid-at (changed p (Insert n acts cells)).plan b g (IsSound-intervention p n acts cells sound free)
+CanBeLaid-changed p (Change id acts cells) b g sound free =
+    CanBeLaid-at (changed p (Change id acts cells)).plan b g (IsSound-changed_intervention p id acts cells sound free)
 CanBeLaid-changed p (RemoveIntervention id) b g sound free =
     CanBeLaid-at (changed p (RemoveIntervention id)).plan b g (IsSound-removed_intervention p id sound)
 CanBeLaid-changed p asked b g sound free = CanBeLaid-at p b g sound
@@ -42,14 +33,9 @@ CanBeLaid-changed p asked b g sound free = CanBeLaid-at p b g sound
 -- after an edit there are no more marks than a document may have
 pub few_marks-changed : (p : Plan) (asked : Asked) → IsSound p → first_refusal (refusals p asked) ≡ None
     → repeat_marks (changed p asked).plan ≤ 8192
-few_marks-changed p (InsertIntervention n generation cells) sound free =
-    (IsSound-intervention p n (Once generation) cells sound free).few_marks
-few_marks-changed p (ChangeIntervention id generation cells) sound free =
-    (IsSound-changed_intervention p id (Once generation) cells sound free).few_marks
-few_marks-changed p (InsertRepeat n first every last cells) sound free =
-    (IsSound-intervention p n (Every first every last) cells sound free).few_marks
-few_marks-changed p (ChangeRepeat id first every last cells) sound free =
-    (IsSound-changed_intervention p id (Every first every last) cells sound free).few_marks
+few_marks-changed p (Insert n acts cells) sound free = (IsSound-intervention p n acts cells sound free).few_marks
+few_marks-changed p (Change id acts cells) sound free =
+    (IsSound-changed_intervention p id acts cells sound free).few_marks
 few_marks-changed p (RemoveIntervention id) sound free = (IsSound-removed_intervention p id sound).few_marks
 few_marks-changed p (AddBookmark n generation view) sound free =
     (IsSound-bookmark p n generation view sound free).few_marks
