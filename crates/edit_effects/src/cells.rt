@@ -55,9 +55,7 @@ fn own_cells_after<'a>(edit: &'a Edit, intervention: &'a Intervention, mark: Mar
             generation,
             cells,
         } if *id == intervention.id => {
-            let acts = Acts::Once {
-                generation: *generation,
-            };
+            let acts = Acts::once(*generation);
             cells_if_at(intervention.branch, acts, cells, mark)
         }
         Edit::ChangeRepeat {
@@ -67,11 +65,7 @@ fn own_cells_after<'a>(edit: &'a Edit, intervention: &'a Intervention, mark: Mar
             last,
             cells,
         } if *id == intervention.id => {
-            let acts = Acts::Every {
-                first: *first,
-                every: *every,
-                last: *last,
-            };
+            let acts = Acts::every(*first, *every, *last);
             cells_if_at(intervention.branch, acts, cells, mark)
         }
         Edit::RemoveIntervention { id } if *id == intervention.id => &[],
@@ -93,14 +87,7 @@ fn inserted_cells(edit: &Edit, mark: Mark) -> &[CellSet]
             branch,
             generation,
             cells,
-        } => cells_if_at(
-            *branch,
-            Acts::Once {
-                generation: *generation,
-            },
-            cells,
-            mark,
-        ),
+        } => cells_if_at(*branch, Acts::once(*generation), cells, mark),
         Edit::InsertRepeat {
             branch,
             first,
@@ -108,11 +95,7 @@ fn inserted_cells(edit: &Edit, mark: Mark) -> &[CellSet]
             last,
             cells,
         } => {
-            let acts = Acts::Every {
-                first: *first,
-                every: *every,
-                last: *last,
-            };
+            let acts = Acts::every(*first, *every, *last);
             cells_if_at(*branch, acts, cells, mark)
         }
         _ => &[],

@@ -28,34 +28,16 @@ pub fn touched_by(document: &Document, edit: &Edit) -> Option<Touched>
             branch,
             generation,
             ..
-        } => Some(added(
-            *branch,
-            Acts::Once {
-                generation: *generation,
-            },
-        )),
+        } => Some(added(*branch, Acts::once(*generation))),
         Edit::InsertRepeat {
             branch,
             first,
             every,
             last,
             ..
-        } => Some(added(
-            *branch,
-            Acts::Every {
-                first: *first,
-                every: *every,
-                last: *last,
-            },
-        )),
+        } => Some(added(*branch, Acts::every(*first, *every, *last))),
         Edit::ChangeIntervention { id, generation, .. } => {
-            moved(
-                document,
-                *id,
-                Acts::Once {
-                    generation: *generation,
-                },
-            )
+            moved(document, *id, Acts::once(*generation))
         }
         Edit::ChangeRepeat {
             id,
@@ -63,15 +45,7 @@ pub fn touched_by(document: &Document, edit: &Edit) -> Option<Touched>
             every,
             last,
             ..
-        } => moved(
-            document,
-            *id,
-            Acts::Every {
-                first: *first,
-                every: *every,
-                last: *last,
-            },
-        ),
+        } => moved(document, *id, Acts::every(*first, *every, *last)),
         Edit::RemoveIntervention { id } => removed(document, *id),
         _ => None,
     }

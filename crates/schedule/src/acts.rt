@@ -12,14 +12,14 @@ pub enum Acts {
 
 impl Acts {
     /// Once, at this generation.
-    pub(crate) fn once(generation: u64) -> Acts
+    pub fn once(generation: u64) -> Acts
         ensures { result ≡ Acts.Once generation }
     {
         Acts::Once { generation }
     }
 
     /// At `first + i * every` for each i from 0, up to `last`.
-    pub(crate) fn every(first: u64, every: u64, last: u64) -> Acts
+    pub fn every(first: u64, every: u64, last: u64) -> Acts
         ensures { result ≡ Acts.Every first every last }
     {
         Acts::Every { first, every, last }
