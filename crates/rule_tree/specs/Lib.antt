@@ -1,3 +1,5 @@
+pub mod Asked
+pub mod Forms
 pub mod Laws
 pub mod NamedRule
 pub mod Rule

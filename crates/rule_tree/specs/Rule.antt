@@ -1,5 +1,5 @@
 -- The rule that a file means, and the next state of a cell under a rule.
-use Rattle.std.specs.Prelude.{◌≡◌, ℕ, ◌<◌, Bool, true, if◌then◌else◌, List, codes, length, slice_index, Option, None, Some, Result, Ok}
+use Rattle.std.specs.Prelude.{◌≡◌, ℕ, Bool, if◌then◌else◌, List, codes, slice_index, Option, Some, Result, Ok}
 use Rattle.std.proofs.Common.{refl}
 use Rattle.rule_file.specs.declared.fault.RuleFault.{RuleFault}
 use Rattle.rule_file.specs.declared.text.SectionKind.{SectionKind}
@@ -8,12 +8,11 @@ use Rattle.basics.specs.Results.{◌>>=◌}
 use Rattle.rule_file.specs.RuleFile.{Section, file_of}
 use Rattle.table_symmetry.specs.NextState as table
 use Rattle.table_symmetry.specs.Rule as table_rule
-use Rattle.table_symmetry.specs.Table as table_values
 use Rattle.table_symmetry.specs.TableLines.{table_of}
 use Rattle.rule_tree.specs.declared.rule.Kind.{Kind}
 use Rattle.rule_tree.specs.declared.rule.Kind.TheVariants.{Table, Tree}
+use Rattle.rule_tree.specs.Asked.{IsTreeFor}
 use Rattle.rule_tree.specs.NamedRule.{NamedRule}
-use Rattle.tree_translation.specs.Translation.{Translates, node_limit}
 use Rattle.decision_tree.specs.Tree as tree_rule
 use Rattle.decision_tree.specs.TreeLines.{tree_of}
 
@@ -68,29 +67,11 @@ pub record AreAlike (rule other : NamedRule) : Type 0 where
   pub states : states_of rule ≡ states_of other
   pub next : next_of rule ≡ next_of other
 
--- no tree that a file may say does what this table does with as few nodes as a translated tree may
--- have
-abbrev pub IsTooLarge : table_values.Table → Type 0
-IsTooLarge t =
-    (section : Section) (tree : tree_rule.Tree) → tree_of section ≡ Ok tree → Translates t tree
-    → node_limit < length tree.nodes
-
 -- the tree that is asked for the next states: a tree is asked itself, and in place of a table its
 -- translation, unless that is too large
 abbrev pub IsAsked : Kind → Option tree_rule.Tree → Type 0
 IsAsked (Tree t) asked = asked ≡ Some t
-IsAsked (Table t) None = IsTooLarge t
-IsAsked (Table t) (Some tree) = Translates t tree
-
--- what is kept of a table or tree: it is one that a file may have, and a table's translation is
--- there unless it is too large
-abbrev pub IsTranslated : Kind → Option tree_rule.Tree → Type 0
-IsTranslated (Tree t) translation = translation ≡ None
-IsTranslated (Table t) translation = IsAsked (Table t) translation
-
-pub record IsKeptRule (kind : Kind) (translation : Option tree_rule.Tree) : Type 0 where
-  pub sound : is_sound kind ≡ true
-  pub translated : IsTranslated kind translation
+IsAsked (Table t) asked = IsTreeFor t asked
 
 -- the rule `still`, under which each cell keeps its state
 abbrev pub still : NamedRule

@@ -6,6 +6,7 @@
 //! then the tree is asked.
 #![tactic(auto)]
 
+mod asked_table;
 mod laws;
 mod rule;
 

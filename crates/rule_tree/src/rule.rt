@@ -1,24 +1,23 @@
 //! Rules as files have them.
 ghost use Rattle.std.specs.Prelude.{◌≡◌, ◌↔◌, ◌<◌, All, Err, IfOk, IsOk, IsTrue};
 ghost use Rattle.std.specs.Option.{option_map};
-ghost use Rattle.rule_file.specs.Results.{Gives, GivesBy};
+ghost use Rattle.rule_file.specs.Results.{Gives};
 ghost use Rattle.rule_file.specs.RuleFile.{file_of};
-ghost use Rattle.rule_tree.specs.Rule.{AreAlike, AreEqual, IsAsked, IsKeptRule, kind_of, name_of, next_of, plain_next, rule_of, states_of, still};
-ghost use Rattle.table_symmetry.specs.Rows.{AreExpanded};
+ghost use Rattle.rule_tree.specs.Rule.{AreAlike, AreEqual, IsAsked, is_sound, kind_of, name_of, next_of, plain_next, rule_of, states_of, still};
 
+use crate::asked_table::AskedTable;
 use basics::Listing;
 use decision_tree::{TreeRule, read_tree};
 use plane_core::{Around, Next};
 use rule_file::{RuleFault, RuleText, SectionKind, cut};
 use std::alloc::{AllocError, Global};
 use std::marker::Model;
-use table_symmetry::{Expanded, TableRule, read_expanded};
-use tree_translation::{TreeFault, from_rows};
+use table_symmetry::{SoundTable, read_expanded};
 
 /// What says what a rule does.
 #[derive(Debug, Drop)]
 pub enum Kind {
-    Table(TableRule),
+    Table(AskedTable),
     Tree(TreeRule),
 }
 
@@ -28,7 +27,7 @@ impl Kind {
         ensures { IsTrue result ↔ (self.now ≡ other.now) }
     {
         match (self, other) {
-            (Kind::Table(table), Kind::Table(other)) => table.equals(other),
+            (Kind::Table(table), Kind::Table(other)) => table.table().equals(other.table()),
             (Kind::Tree(tree), Kind::Tree(other)) => tree.equals(other),
             _ => false,
         }
@@ -43,7 +42,6 @@ impl Kind {
 pub struct Rule {
     name: Listing<u8>,
     kind: Kind,
-    translation: Option<TreeRule>,
 }
 
 impl Model for Rule {
@@ -51,11 +49,12 @@ impl Model for Rule {
 
     ghost Value = { NamedRule };
 
-    ghost use Rattle.rule_tree.specs.Rule.{IsKeptRule};
+    ghost use Rattle.std.specs.Prelude.{IsTrue};
+    ghost use Rattle.rule_tree.specs.Rule.{is_sound};
 
     ghost view = { λ rule. record { name = rule.name; kind = rule.kind } };
 
-    ghost invariant = { λ rule. IsKeptRule rule.kind rule.translation };
+    ghost invariant = { λ rule. IsTrue (is_sound rule.kind) };
 }
 
 impl Rule {
@@ -70,13 +69,9 @@ impl Rule {
         ensures no_memory { result ≡ Err RuleFault.NoMemory → IsOk (file_of text.now) }
     {
         let file = cut(alloc, text)?;
-        let (kind, translation) = read_kind(alloc, &file)?;
+        let kind = read_kind(alloc, &file)?;
         let name = Listing::from_vec(file.name().to_vec(alloc)?);
-        Ok(Rule {
-            name,
-            kind,
-            translation,
-        })
+        Ok(Rule { name, kind })
     }
 
     /// The rule named `still`, of two states, under which each cell keeps its own.
@@ -84,14 +79,10 @@ impl Rule {
         ensures { IfOk result (λ rule. rule ≡ still) }
     {
         let name = Listing::from_vec(b"still".to_vec(alloc)?);
-        let table = TableRule::still(alloc);
+        let table = SoundTable::still(alloc);
         let rows = table.expand()?;
-        let translation = translated(alloc, &table, rows)?;
-        Ok(Rule {
-            name,
-            kind: Kind::Table(table),
-            translation,
-        })
+        let kind = Kind::Table(AskedTable::new(alloc, table, rows)?);
+        Ok(Rule { name, kind })
     }
 
     /// The rule's name, of bytes from 33 to 126 without the colon.
@@ -118,40 +109,23 @@ impl Rule {
         ensures { IsAsked self.now.kind (option_map (λ tree. tree.now) result) }
     {
         match &self.kind {
-            Kind::Table(_) => self.translation.as_ref(),
+            Kind::Table(table) => table.tree(),
             Kind::Tree(tree) => Some(tree),
         }
     }
 }
 
-// The table or the tree that a section says, and the tree to which a table is translated.
-fn read_kind(alloc: Global, file: &RuleText) -> Result<(Kind, Option<TreeRule>), RuleFault>
-    ensures kind { GivesBy (λ found. found.0) result (kind_of file.now.section) }
-    ensures kept { IfOk result (λ found. IsKeptRule found.0 found.1) }
+// The table or the tree that a section says.
+fn read_kind(alloc: Global, file: &RuleText) -> Result<Kind, RuleFault>
+    ensures kind { Gives result (kind_of file.now.section) }
+    ensures sound { IfOk result (λ kind. IsTrue (is_sound kind)) }
 {
     match file.kind() {
         SectionKind::Table => {
             let (table, rows) = read_expanded(alloc, file)?;
-            let translation = translated(alloc, &table, rows)?;
-            Ok((Kind::Table(table), translation))
+            Ok(Kind::Table(AskedTable::new(alloc, table, rows)?))
         }
-        SectionKind::Tree => Ok((Kind::Tree(read_tree(alloc, file)?), None)),
-    }
-}
-
-// The tree of a table that expands to these rows, unless it is too large.
-fn translated(
-    alloc: Global,
-    table: &TableRule,
-    rows: Vec<Expanded>,
-) -> Result<Option<TreeRule>, AllocError>
-    requires { AreExpanded table.now rows.items }
-    ensures { IfOk result (λ tree. IsAsked (Kind.Table table.now) tree) }
-{
-    match from_rows(alloc, table, rows) {
-        Ok(tree) => Ok(Some(tree)),
-        Err(TreeFault::TreeTooLarge) => Ok(None),
-        Err(TreeFault::NoMemory) => Err(AllocError),
+        SectionKind::Tree => Ok(Kind::Tree(read_tree(alloc, file)?)),
     }
 }
 
@@ -169,7 +143,7 @@ impl Next for Rule {
 
     fn states(&self) -> u16 {
         match &self.kind {
-            Kind::Table(table) => table.states(),
+            Kind::Table(table) => table.table().states(),
             Kind::Tree(tree) => tree.states(),
         }
     }
@@ -179,9 +153,6 @@ impl Next for Rule {
         ensures value { result ≡ next_of self.now around.now.0 }
         ensures plain { result ≡ plain_next self.now.kind around.now.0 }
     {
-        if let Some(tree) = &self.translation {
-            return tree.next(around);
-        }
         match &self.kind {
             Kind::Table(table) => table.next(around),
             Kind::Tree(tree) => tree.next(around),

@@ -5,14 +5,17 @@
 //! states at and around it: the result of the first transition that matches. `expand` lists its
 //! transitions without variables and symmetries, of which a table has at most 1,000,000.
 //!
-//! A table keeps a bit for each expanded transition, each of its inputs and each state. A next
-//! state costs one look at each input for 64 expanded transitions, up to the first that matches.
+//! A `TableRule` keeps a bit for each expanded transition, each of its inputs and each state. A
+//! next state costs one look at each input for 64 expanded transitions, up to the first that
+//! matches. A `SoundTable` is the table alone, for those who don't ask it for next states.
 #![tactic(auto)]
 
 mod arrangement;
 mod expansion;
 mod laws;
 mod lookup;
+mod matching;
+mod sound_table;
 mod table;
 mod table_reader;
 
@@ -21,6 +24,7 @@ pub use laws::{
     permute_takes_all_orders, symmetries_are_generated, tables_of_files_are_sound,
     tables_of_files_are_written, written_means_the_same,
 };
+pub use sound_table::SoundTable;
 pub use table::TableRule;
 pub use table_lines::{
     Entry, Head, Neighborhood, StateSet, Symmetry, TableLines, Transition, Variable, read_lines,

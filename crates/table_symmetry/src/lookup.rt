@@ -114,7 +114,7 @@ pub(crate) fn input_count(neighborhood: Neighborhood) -> usize
 }
 
 /// The states of a row's inputs, before states that don't matter.
-fn picked(neighborhood: Neighborhood, around: &Around) -> [u8; 9]
+pub(crate) fn picked(neighborhood: Neighborhood, around: &Around) -> [u8; 9]
     ensures { take (length (places_of neighborhood) + 1) result
         ≡ inputs_of neighborhood around.now.0 }
 {

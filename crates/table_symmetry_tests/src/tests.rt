@@ -40,6 +40,14 @@ fn listed(rt: &impl Abort, alloc: Global, lines: &str) -> Vec<Expanded> {
     rows
 }
 
+/// The rule of a table that is read alone, with a look-up that is made later.
+fn looked_up(rt: &impl Abort, alloc: Global, lines: &str) -> TableRule {
+    let file = file(rt, alloc, lines);
+    let text = cut(alloc, file.as_bytes()).expect(rt, "a rule file");
+    let (table, rows) = read_expanded(alloc, &text).expect(rt, "a table");
+    TableRule::new(alloc, table, &rows).expect(rt, "memory")
+}
+
 /// The next state, of states that the rule has.
 fn next(rt: &impl Abort, rule: &TableRule, around: [u8; 9]) -> u8 {
     assert!(rt; are_below(&around, rule.states()), "{around:?}");

@@ -24,14 +24,14 @@ use decision_tree::{Neighbors, TreeRule};
 use indexmap::IndexSet;
 use std::alloc::Global;
 use std::collections::HashMap;
-use table_symmetry::{Expanded, Neighborhood, TableRule};
+use table_symmetry::{Expanded, Neighborhood, SoundTable};
 
 /// Translates a table to the smallest tree with the same next states.
 ///
 /// A hexagonal table becomes a tree of eight neighbours and a one-dimensional one a tree of four,
 /// which don't look at the neighbours that the table doesn't have. TreeTooLarge comes where even
 /// the smallest tree has more than 1,000,000 nodes, NoMemory only where memory ran out.
-pub fn from_table(alloc: Global, table: &TableRule) -> Result<TreeRule, TreeFault>
+pub fn from_table(alloc: Global, table: &SoundTable) -> Result<TreeRule, TreeFault>
     ensures translates { IfOk result (λ tree. Translates table.now tree) }
     ensures few { IfOk result (λ tree. length tree.nodes ≤ node_limit) }
     ensures smallest { IfOk result (λ tree. NeedsNodes table.now (length tree.nodes)) }
@@ -46,7 +46,7 @@ pub fn from_table(alloc: Global, table: &TableRule) -> Result<TreeRule, TreeFaul
 /// freed before the nodes are made.
 pub fn from_rows(
     alloc: Global,
-    table: &TableRule,
+    table: &SoundTable,
     rows: Vec<Expanded>,
 ) -> Result<TreeRule, TreeFault>
     requires { AreExpanded table.now rows.items }
@@ -142,7 +142,7 @@ fn order_of(neighborhood: Neighborhood) -> &'static [Option<usize>]
 }
 
 // The tree of these nodes, of which the last is the root.
-fn finish(alloc: Global, table: &TableRule, nodes: &[Node]) -> Result<TreeRule, TreeFault>
+fn finish(alloc: Global, table: &SoundTable, nodes: &[Node]) -> Result<TreeRule, TreeFault>
     requires few { length nodes.now ≤ node_limit }
     requires does { DoTable table.now (entries_in nodes.now) }
     requires quiet { next table.now nine_zeros ≡ 0 }

@@ -1,5 +1,5 @@
 //! Tables with what they expand to and what they give.
-use super::{gives, listed, next, read, rule, same};
+use super::{gives, listed, looked_up, next, read, rule, same};
 use rule_file::RuleFault;
 use std::alloc::Global;
 use std::process::Abort;
@@ -356,6 +356,16 @@ fn reading_lists_the_expanded_transitions(rt: HostRuntime) {
         &4,
         &"turns",
     );
+}
+
+#[test]
+fn tables_are_read_alone_and_looked_up_later(rt: HostRuntime) {
+    let later = looked_up(&rt, rt.alloc(), STAR);
+    gives(&rt, &later, [0, 0, 0, 1, 0, 0, 0, 0, 0], 1);
+    let rows = later.table().expand().expect(&rt, "memory");
+    same(&rt, &rows.len(), &4, &"expanded transitions");
+    let once = rule(&rt, rt.alloc(), STAR_COMPACT);
+    same(&rt, &later.table().equals(once.table()), &true, &"tables");
 }
 
 #[test]

@@ -1,9 +1,4 @@
-use Rattle.std.proofs.Common.{refl, arith}
 use Rattle.table_symmetry.proofs.table.TableRule.still.Goals as goal
 
 pub invariant_of-result : goal.invariant_of-result
-invariant_of-result c = rw c.of_head.ensures (record {
-  read = record { at_least = omega arith; at_most = omega arith; below = refl; full = refl };
-  sound = refl;
-  looked_up = record { few = omega arith; listed = c.empty.ensures 2 };
-})
+invariant_of-result c = rw c.still.ensures (c.empty.ensures 2)

@@ -1,0 +1,6 @@
+use Rattle.std.proofs.Common.{◌≡◌, drop}
+use Rattle.table_symmetry.specs.Expanded.{first_match}
+use Rattle.table_symmetry.proofs.matching.first_match.Given as goal
+
+abbrev pub invariant-loop-row : goal.invariant-loop-row
+invariant-loop-row l = first_match (drop l.row-index l.rows) l.inputs ≡ first_match l.rows l.inputs
