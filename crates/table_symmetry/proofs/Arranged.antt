@@ -1,5 +1,5 @@
 -- Lists of sets, compared.
-use Rattle.std.proofs.Common.{◌≡◌, ℕ, ◌+◌, ◌<◌, true, ◌||◌, List, [], ◌∷◌, ◌++◌, Vec, Global, length, take, get_or, refl, sym, arith}
+use Rattle.std.proofs.Common.{◌≡◌, ℕ, ◌+◌, ◌<◌, true, false, ◌||◌, List, [], ◌∷◌, ◌++◌, Vec, Global, length, take, get_or, refl, sym, ◌∙◌, arith}
 use Rattle.std.specs.List.{list_any}
 use Rattle.std.proofs.lemmas.List.{map-append, take_more}
 use Rattle.indexmap.specs.IndexSet.{insert_key}
@@ -13,6 +13,19 @@ same_sets_decides = pointwise_decides bytes_decides
 -- of lists that stand in others, one more
 pub lists-more : (keys : List (Vec (List ℕ) Global)) (i : ℕ) (key : Vec (List ℕ) Global) → i < length keys → key ≡ get_or keys i key → lists_in (take (i + 1) keys) ≡ lists_in (take i keys) ++ key.items ∷ []
 lists-more keys i key h is = rw (take_more keys i key h, ← is) (map-append (λ v. v.items) (take i keys) (key ∷ []))
+
+-- one more list, where it is there and where it isn't
+
+any-of_lists : (lists : List (Vec (List ℕ) Global)) (list : List (List ℕ)) → list_any (λ other. same_sets other.items list) lists ≡ list_any (λ other. same_sets other list) (lists_in lists)
+any-of_lists [] list = refl
+any-of_lists (other ∷ lists) list = λ i. same_sets other.items list || any-of_lists lists list i
+
+pub list-known : (lists : List (Vec (List ℕ) Global)) (list : Vec (List ℕ) Global) → list_any (λ other. same_sets other.items list.items) lists ≡ true → lists_in lists ≡ with_one same_sets (lists_in lists) list.items
+list-known lists list there = rw (sym (any-of_lists lists list.items) ∙ there) refl
+
+pub list-more : (lists : List (Vec (List ℕ) Global)) (list : Vec (List ℕ) Global) → list_any (λ other. same_sets other.items list.items) lists ≡ false
+    → lists_in (lists ++ list ∷ []) ≡ with_one same_sets (lists_in lists) list.items
+list-more lists list new = rw (sym (any-of_lists lists list.items) ∙ new, map-append (λ (v : Vec (List ℕ) Global). v.items) lists (list ∷ [])) refl
 
 -- one more list, unless it is there
 

@@ -1,8 +1,9 @@
 //! The arrangements in which the neighbours of a transition may stand.
 //!
-//! Under `permute` each set is put in at each place of the orders of those after it. A list is kept
-//! once, where it came first; whether it is there is seen by its hash, so the cost is in proportion
-//! to the lists that are looked at.
+//! A list is kept once, where it came first. Turns and reflections give 16 at most, of which each is
+//! compared with those before it. Under `permute` each set is put in at each place of the orders of
+//! those after it, and whether a list is there is seen by its hash, so the cost is in proportion to
+//! the lists that are looked at.
 ghost use Rattle.std.specs.Prelude.{◌≡◌, ◌≤◌, ◌++◌, ◌∷◌, length, take, drop, IfOk, OnOk};
 ghost use Rattle.std.specs.List.{flat_map};
 ghost use Rattle.table_symmetry.specs.Circle as maps;
@@ -13,8 +14,11 @@ use indexmap::IndexSet;
 use std::alloc::{AllocError, Global};
 use table_lines::{StateSet, Symmetry};
 
-/// Lists of sets of states, one for each neighbour, each list once.
-pub type Circles = IndexSet<Vec<StateSet>>;
+/// Lists of sets of states, one for each neighbour.
+pub type Circles = Vec<Vec<StateSet>>;
+
+/// The same, each list once.
+type Orders = IndexSet<Vec<StateSet>>;
 
 /// The circle as the maps of the symmetry put it, each arrangement once.
 pub fn arrangements(
@@ -22,7 +26,7 @@ pub fn arrangements(
     symmetry: Symmetry,
     circle: &[StateSet],
 ) -> Result<Circles, AllocError>
-    ensures { IfOk result (λ lists. lists_in lists.keys
+    ensures { IfOk result (λ lists. lists_in lists.items
         ≡ distinct same_sets (maps.arrangements symmetry circle.now)) }
 {
     match symmetry {
@@ -37,17 +41,17 @@ pub fn arrangements(
         Symmetry::Rotate8Reflect => turns_and_reflections(alloc, 8, circle),
         Symmetry::ReflectHorizontal => turns_and_reflections(alloc, 1, circle),
         Symmetry::Reflect => turns(alloc, 2, circle),
-        Symmetry::Permute => orders(alloc, circle),
+        Symmetry::Permute => all_orders(alloc, circle),
     }
 }
 
 // The circle as equal turns put it.
 fn turns(alloc: Global, count: usize, circle: &[StateSet]) -> Result<Circles, AllocError>
     requires { 1 ≤ count }
-    ensures { IfOk result (λ lists. lists_in lists.keys
+    ensures { IfOk result (λ lists. lists_in lists.items
         ≡ distinct same_sets (maps.turns count circle.now)) }
 {
-    let mut lists = IndexSet::new(alloc);
+    let mut lists = Vec::new(alloc);
     add_turns(alloc, &mut lists, count, circle)?;
     Ok(lists)
 }
@@ -59,7 +63,7 @@ fn turns_and_reflections(
     circle: &[StateSet],
 ) -> Result<Circles, AllocError>
     requires { 1 ≤ count }
-    ensures { IfOk result (λ lists. lists_in lists.keys
+    ensures { IfOk result (λ lists. lists_in lists.items
         ≡ distinct same_sets
         (maps.turns count circle.now ++ maps.turns count (maps.mirrored circle.now))) }
 {
@@ -77,18 +81,30 @@ fn add_turns(
     circle: &[StateSet],
 ) -> Result<(), AllocError>
     requires { 1 ≤ count }
-    ensures { OnOk result (lists_in lists.new.keys
-        ≡ with_all same_sets (lists_in lists.old.keys) (maps.turns count circle.now)) }
+    ensures { OnOk result (lists_in lists.new.items
+        ≡ with_all same_sets (lists_in lists.old.items) (maps.turns count circle.now)) }
 {
     for turn in 0..count {
         let places = turn * (circle.len() / count);
-        add_new(lists, joined(alloc, &circle[places..], &circle[..places])?)?;
+        add_other(lists, joined(alloc, &circle[places..], &circle[..places])?)?;
     }
     Ok(())
 }
 
-// Adds the list, unless it is there.
-fn add_new(lists: &mut Circles, list: Vec<StateSet>) -> Result<(), AllocError>
+// Adds the list to few, unless it is there.
+fn add_other(lists: &mut Circles, list: Vec<StateSet>) -> Result<(), AllocError>
+    ensures { OnOk result (lists_in lists.new.items
+        ≡ with_one same_sets (lists_in lists.old.items) list.items) }
+{
+    if lists.contains(&list) {
+        return Ok(());
+    }
+    lists.push(list)?;
+    Ok(())
+}
+
+// Adds the list to any number, unless it is there.
+fn add_new(lists: &mut Orders, list: Vec<StateSet>) -> Result<(), AllocError>
     ensures { OnOk result (lists_in lists.new.keys
         ≡ with_one same_sets (lists_in lists.old.keys) list.items) }
 {
@@ -108,7 +124,15 @@ fn mirrored(alloc: Global, circle: &[StateSet]) -> Result<Vec<StateSet>, AllocEr
 }
 
 // All orders of the circle, each once.
-fn orders(alloc: Global, circle: &[StateSet]) -> Result<Circles, AllocError>
+fn all_orders(alloc: Global, circle: &[StateSet]) -> Result<Circles, AllocError>
+    ensures { IfOk result (λ lists. lists_in lists.items
+        ≡ distinct same_sets (maps.permutations circle.now)) }
+{
+    orders(alloc, circle)?.into_iter().collect(alloc)
+}
+
+// The same, as they are found.
+fn orders(alloc: Global, circle: &[StateSet]) -> Result<Orders, AllocError>
     ensures { IfOk result (λ lists. lists_in lists.keys
         ≡ distinct same_sets (maps.permutations circle.now)) }
 {
@@ -126,7 +150,7 @@ fn orders(alloc: Global, circle: &[StateSet]) -> Result<Circles, AllocError>
 }
 
 // The orders with one more set, put in at each place, each once.
-fn longer_orders(alloc: Global, set: StateSet, orders: &Circles) -> Result<Circles, AllocError>
+fn longer_orders(alloc: Global, set: StateSet, orders: &Orders) -> Result<Orders, AllocError>
     ensures { IfOk result (λ lists. lists_in lists.keys
         ≡ distinct same_sets (flat_map (maps.insertions set) (lists_in orders.now.keys))) }
 {
@@ -140,7 +164,7 @@ fn longer_orders(alloc: Global, set: StateSet, orders: &Circles) -> Result<Circl
 // Adds the list with one more set, put in at each place, where that isn't there yet.
 fn add_insertions(
     alloc: Global,
-    lists: &mut Circles,
+    lists: &mut Orders,
     set: StateSet,
     list: &[StateSet],
 ) -> Result<(), AllocError>

@@ -9,7 +9,7 @@ ghost use Rattle.table_symmetry.specs.Expanded.{expanded_of, expanded_one, trans
 ghost use Rattle.table_symmetry.specs.Grown.{ExpandTo, Grows, IsTooLong, lists_in, row_of};
 ghost use Rattle.table_symmetry.specs.NextState as meaning;
 
-use crate::arrangement::{Circles, arrangements, joined};
+use crate::arrangement::{arrangements, joined};
 use basics::Listing;
 use rule_file::RuleFault;
 use std::alloc::{AllocError, Global};
@@ -97,13 +97,13 @@ fn push_lists(
     alloc: Global,
     rows: &mut Vec<Expanded>,
     centre: &[StateSet],
-    lists: &Circles,
+    lists: &[Vec<StateSet>],
     given: u8,
 ) -> Result<(), AllocError>
     ensures { OnOk result (rows.new.items
-        ≡ rows.old.items ++ map (row_of centre.now given) (lists_in lists.now.keys)) }
+        ≡ rows.old.items ++ map (row_of centre.now given) (lists_in lists.now)) }
 {
-    for list in lists.as_slice() {
+    for list in lists {
         let inputs = joined(alloc, centre, list)?;
         rows.push(Expanded {
             inputs: Listing::from_vec(inputs),

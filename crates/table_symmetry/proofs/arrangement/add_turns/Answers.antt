@@ -11,4 +11,4 @@ loop-turn-preserved c =
     let circle = c.args.circle.now in
     let at : ℕ → List (List ℕ) = λ i. maps.turned (i * (length circle / c.args.count)) circle in
     let joined = rw (take_rest circle (c.loop-turn.turn * (length circle / c.args.count))) at c.in_ok-joined.ensures in
-    rw (with_all-next same_sets same_sets_decides _ at c.loop-turn.turn, ← c.loop-turn.invariant, ← joined) c.in_ok-add_new.ensures
+    rw (with_all-next same_sets same_sets_decides _ at c.loop-turn.turn, ← c.loop-turn.invariant, ← joined) c.in_ok-add_other.ensures

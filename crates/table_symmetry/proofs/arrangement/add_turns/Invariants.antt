@@ -6,4 +6,4 @@ use Rattle.table_symmetry.specs.Grown.{lists_in, with_all}
 use Rattle.table_symmetry.proofs.arrangement.add_turns.Given as goal
 
 abbrev pub invariant-loop-turn : goal.invariant-loop-turn
-invariant-loop-turn l = lists_in l.lists.keys ≡ with_all same_sets (lists_in l.initial.lists.keys) (map (λ i. maps.turned (i * (length l.circle / l.count)) l.circle) (range_with_len 0 l.turn))
+invariant-loop-turn l = lists_in l.lists.items ≡ with_all same_sets (lists_in l.initial.lists.items) (map (λ i. maps.turned (i * (length l.circle / l.count)) l.circle) (range_with_len 0 l.turn))

@@ -1,13 +1,10 @@
-use Rattle.std.proofs.Common.{[], ap, ◌∙◌}
-use Rattle.std.proofs.lemmas.List.{nil_from_length}
+use Rattle.std.proofs.Common.{[], ◌∙◌}
 use Rattle.table_symmetry.specs.Circle as maps
 use Rattle.table_symmetry.specs.Expanded.{same_sets}
-use Rattle.table_symmetry.specs.Grown.{lists_in}
 use Rattle.table_symmetry.proofs.Arranged.{same_sets_decides}
 use Rattle.table_symmetry.proofs.Distinct.{with_all-distinct}
 use Rattle.table_symmetry.proofs.arrangement.turns.Goals as goal
 
 pub returns : goal.returns
 returns c =
-    let none = ap lists_in (nil_from_length c.new-lists.result.keys c.new-lists.ensures.len) in
-    rw none at c.in_ok-add_turns.ensures ∙ with_all-distinct same_sets same_sets_decides [] (maps.turns c.args.count c.args.circle.now)
+    rw c.new-lists.ensures.items at c.in_ok-add_turns.ensures ∙ with_all-distinct same_sets same_sets_decides [] (maps.turns c.args.count c.args.circle.now)

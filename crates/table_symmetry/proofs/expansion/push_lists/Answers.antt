@@ -1,4 +1,4 @@
-use Rattle.std.proofs.Common.{◌≡◌, append_assoc, ap, ◌∙◌}
+use Rattle.std.proofs.Common.{◌≡◌, append_assoc, ap}
 use Rattle.std.proofs.lemmas.List.{map-append, take_all}
 use Rattle.table_symmetry.specs.declared.expansion.Expanded.{Expanded}
 use Rattle.table_symmetry.specs.Grown.{lists_in, row_of}
@@ -7,10 +7,10 @@ use Rattle.table_symmetry.proofs.expansion.push_lists.Goals as goal
 
 pub loop-list-preserved : goal.loop-list-preserved
 loop-list-preserved c =
-    let next = lists-more c.as_slice-list-items.result.now c.loop-list.list-index c.list-item.result c.loop-list-test.true c.list-item.is in
+    let next = lists-more c.args.lists.now c.loop-list.list-index c.list-item.result c.loop-list-test.true c.list-item.is in
     let made : ◌≡◌ {A = Expanded} (record { inputs = c.from_vec.result; result = c.args.given }) (row_of c.args.centre.now c.args.given c.list-item.result.items) = rw
     (c.from_vec.ensures, c.in_ok-inputs.ensures, c.deref.ensures.value) in
     rw (c.in_ok-push.ensures.items, made, c.loop-list.invariant, next, map-append, append_assoc)
 
 pub returns : goal.returns
-returns c = rw (ap lists_in (take_all c.loop-list.list-index c.as_slice-list-items.result.now c.loop-list-test.false ∙ c.as_slice-list-items.ensures.keys)) at c.loop-list.invariant
+returns c = rw (ap lists_in (take_all c.loop-list.list-index c.args.lists.now c.loop-list-test.false)) at c.loop-list.invariant

@@ -15,4 +15,4 @@ returns c =
     let lists = rw circle at c.in_ok-lists.ensures in
     let pushed = c.in_ok-push_lists.ensures in
     let count = simp (length-append, length-map) at (ap length pushed) in
-    (rw (centre, c.given.ensures, lists) at pushed, omega (arith, count, c.if-len.false, c.len-2.ensures, c.len-3.ensures, c.requires))
+    (rw (centre, c.given.ensures, c.deref-2.ensures.value, lists) at pushed, omega (arith, count, c.if-len.false, c.len-2.ensures, c.len-3.ensures, c.requires))
