@@ -235,11 +235,11 @@ fn add_rest(
         IsFound layer.now state passed is_there.old found.old.items →
         IsFound layer.now state (passed ++ number ∷ []) is_there.new found.new.items) }
 {
-    let rest = layer.tails[number as usize].rest;
-    if is_there[rest as usize] {
+    if !layer.lets(number, state) {
         return Ok(());
     }
-    if !layer.lets(number, state) {
+    let rest = layer.tails[number as usize].rest;
+    if is_there[rest as usize] {
         return Ok(());
     }
     is_there[rest as usize] = true;
