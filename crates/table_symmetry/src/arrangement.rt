@@ -201,5 +201,8 @@ pub fn joined(
 ) -> Result<Vec<StateSet>, AllocError>
     ensures { IfOk result (λ list. list.items ≡ front.now ++ back.now) }
 {
-    front.iter().chain(back).copied().collect(alloc)
+    let mut list = Vec::with_capacity(alloc, front.len().saturating_add(back.len()))?;
+    list.extend_from_slice(front)?;
+    list.extend_from_slice(back)?;
+    Ok(list)
 }
