@@ -1,9 +1,9 @@
 //! The arrangements in which the neighbours of a transition may stand.
 //!
-//! A list is kept once, where it came first. Turns and reflections give 16 at most, of which each is
-//! compared with those before it. Under `permute` each set is put in at each place of the orders of
-//! those after it, and whether a list is there is seen by its hash, so the cost is in proportion to
-//! the lists that are looked at.
+//! A list is kept once, where it came first. Turns and reflections give 16 at most, each of which
+//! is compared with those before it. Under `permute` each set is put in at each place of the orders
+//! of those after it, and whether a list is there is seen by its hash, so the cost is in proportion
+//! to the lists that are looked at.
 ghost use Rattle.std.specs.Prelude.{◌≡◌, ◌≤◌, ◌++◌, ◌∷◌, length, take, drop, IfOk, OnOk};
 ghost use Rattle.std.specs.List.{flat_map};
 ghost use Rattle.table_symmetry.specs.Circle as maps;
