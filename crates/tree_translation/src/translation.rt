@@ -24,14 +24,14 @@ use decision_tree::{Neighbors, TreeRule};
 use indexmap::IndexSet;
 use std::alloc::Global;
 use std::collections::HashMap;
-use table_symmetry::{Expanded, Neighborhood, SoundTable};
+use table_symmetry::{Expanded, Neighborhood, SoundTable, TableRule};
 
 /// Translates a table to the smallest tree with the same next states.
 ///
 /// A hexagonal table becomes a tree of eight neighbours and a one-dimensional one a tree of four,
 /// which don't look at the neighbours that the table doesn't have. TreeTooLarge comes where even
 /// the smallest tree has more than 1,000,000 nodes, NoMemory only where memory ran out.
-pub fn from_table(alloc: Global, table: &SoundTable) -> Result<TreeRule, TreeFault>
+pub fn from_table(alloc: Global, table: &TableRule) -> Result<TreeRule, TreeFault>
     ensures translates { IfOk result (λ tree. Translates table.now tree) }
     ensures few { IfOk result (λ tree. length tree.nodes ≤ node_limit) }
     ensures smallest { IfOk result (λ tree. NeedsNodes table.now (length tree.nodes)) }
@@ -39,7 +39,7 @@ pub fn from_table(alloc: Global, table: &SoundTable) -> Result<TreeRule, TreeFau
         NeedsNodes table.now (node_limit + 1)) }
 {
     let rows = table.expand()?;
-    from_rows(alloc, table, rows)
+    from_rows(alloc, table.table(), rows)
 }
 
 /// The same as `from_table`, where the table's expanded transitions are there already. They are

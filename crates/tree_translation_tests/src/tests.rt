@@ -56,7 +56,7 @@ fn table_of(rt: &impl Abort, alloc: Global, lines: &str) -> TableRule {
 }
 
 fn translated(rt: &impl Abort, alloc: Global, table: &TableRule) -> TreeRule {
-    from_table(alloc, table.table()).expect(rt, "a tree")
+    from_table(alloc, table).expect(rt, "a tree")
 }
 
 // The tree of a table of these lines.
