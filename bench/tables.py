@@ -8,7 +8,7 @@ neighbourhood, so that a tree of it needs about n^4 nodes for n states. It is le
 kept as a table; the processor seconds and the peak of memory are those of finding that out.
 
 Expanded: the table has just under 1,000,000 expanded transitions, by two variables of all states
-under rotate8. Its tree has about half a million nodes.
+under rotate8. Its tree has half a million nodes with 200 states and 850,000 with 256.
 """
 import sys
 
