@@ -6,4 +6,5 @@ pub mod Listing
 pub mod Laying
 pub mod Middles
 pub mod Canonical
+pub mod Renumbered
 pub mod Packing

@@ -1,9 +1,8 @@
 -- The squares of a table that are packed as the rows of a plane.
 use Rattle.std.proofs.Common.{◌≡◌, ℕ, zero, suc, ◌+◌, ◌-◌, ◌<◌, ◌≤◌, ◌^◌, ◌⊎◌, Bool, true, false, List, [], ◌∷◌, ◌++◌, length, get_or, Option, Some, None, refl, sym, ap, ◌∙◌, subst, arith, inl, inr}
-use Rattle.std.specs.Prelude.{nat_eq, IfSome}
+use Rattle.std.specs.Prelude.{IfSome}
 use Rattle.std.specs.List.{list_any, position_or_len}
-use Rattle.std.specs.HashMap.{get, Updates}
-use Rattle.std.proofs.lemmas.Bool.{cases_eq, cases_lt, ne_eqb}
+use Rattle.std.proofs.lemmas.Bool.{cases_eq, cases_lt}
 use Rattle.std.proofs.lemmas.List.{length_push, get_or_push}
 use Rattle.worlds.specs.Square.{Square, one, four, empty_square, IsSquare}
 use Rattle.plane_core.specs.declared.row.SquareRow.{SquareRow}
@@ -20,11 +19,14 @@ use Rattle.plane_core.proofs.Shared.Tidy.{IsListed, LevelsUpTo, number_square-le
 use Rattle.square_table.specs.Squares.{IsNumber, AreNumbers, AreDistinct, square_in, square_of, kids_at}
 use Rattle.square_table.specs.declared.pack.Packed.{Packed}
 use Rattle.square_table.specs.declared.pack.Quarters.{Quarters}
+use Rattle.square_table.specs.declared.renumbering.Renumbered.{Renumbered}
+use Rattle.square_table.specs.Renumbering.{entry, known_of}
 use Rattle.square_table.specs.Packing.{IsSeen, IsPacking, IsPadded, Packs, WalksFour}
 use Rattle.square_table.proofs.Shared.Numbers.{one_level, one_number}
 use Rattle.square_table.proofs.Shared.Growth.{AreNumbers-quadrants, square_in-quadrants}
 use Rattle.square_table.proofs.Laying.{square_in-IsSquare}
 use Rattle.square_table.proofs.Listing.{row_square-kept}
+use Rattle.square_table.proofs.Renumbered.{known_last, known_other}
 use Rattle.square_table.proofs.Loading.{square_in-cell, empty_square-zero, empty_square-suc}
 
 -- four numbers of a level
@@ -47,7 +49,7 @@ pub packed_state : (rows : List (List ℕ)) (done : List SquareRow) (k n : ℕ) 
 packed_state q0 q1 q2 q3 q4 = grind (arith, square_in-cell, state-walk)
 
 -- a square that is remembered adds nothing
-pub recalled : (rows : List (List ℕ)) (packed : Packed) (k n m : ℕ) → 0 < k → IsPacking rows packed → IsNumber rows k n → get nat_eq packed.numbers n ≡ Some m → Walks k (square_in rows k n) packed.squares.items packed.squares.items m
+pub recalled : (rows : List (List ℕ)) (packed : Packed) (k n m : ℕ) → 0 < k → IsPacking rows packed → IsNumber rows k n → known_of packed.numbers n ≡ Some m → Walks k (square_in rows k n) packed.squares.items packed.squares.items m
 recalled rows packed k n m low packing is e = subst (λ (o : Option ℕ). IfSome o (Has k (square_in rows k n) packed.squares.items)) e (packing.known k n low is)
 
 pub packs_none : (rows : List (List ℕ)) (k : ℕ) (packed : Packed) → IsPacking rows packed → Packs rows k packed packed
@@ -95,7 +97,7 @@ none_some q0 q1 q2 q3 = grind (arith)
 
 -- a square that isn't remembered has no row yet
 unknown_suc : (rows : List (List ℕ)) (packed : Packed) (old : List SquareRow) (k n : ℕ) (kids all : List ℕ) (there : Bool) → IsPacking rows packed → k ≤ 62 → IsNumber rows (suc k) n → kids ≡ kids_at rows n
-    → WalksFour rows k kids old packed.squares.items all → get nat_eq packed.numbers n ≡ None → list_any (same_row (row_by (suc k) all)) packed.squares.items ≡ there → there ≡ false
+    → WalksFour rows k kids old packed.squares.items all → known_of packed.numbers n ≡ None → list_any (same_row (row_by (suc k) all)) packed.squares.items ≡ there → there ≡ false
 unknown_suc rows packed old k n kids all false packing high is read w unknown e = refl
 unknown_suc rows packed old k n kids all true packing high is read w unknown e =
     let done = packed.squares.items in
@@ -112,10 +114,10 @@ unknown_suc rows packed old k n kids all true packing high is read w unknown e =
     ∙ ap (λ (r : SquareRow). four (listed.square_in done k (kid r 0)) (listed.square_in done k (kid r 1)) (listed.square_in done k (kid r 2)) (listed.square_in done k (kid r 3))) at
     ∙ four_named rows packed old k kids all packing high are w ∙ ap (square_of rows k) read ∙ sym (square_in-quadrants rows k n) in
     let same : seen.number ≡ n = one_number rows packing.distinct (suc k) seen.number n numbered_is is (sym named ∙ here) in
-    absurd (none_some (suc i) (get nat_eq packed.numbers n) unknown (ap (get nat_eq packed.numbers) (sym same) ∙ seen.known))
+    absurd (none_some (suc i) (known_of packed.numbers n) unknown (ap (known_of packed.numbers) (sym same) ∙ seen.known))
 
 pub unknown_new : (rows : List (List ℕ)) (packed : Packed) (old : List SquareRow) (level k n : ℕ) (kids all : List ℕ) → level ≡ suc k → IsPacking rows packed → level ≤ 62 → IsNumber rows level n → kids ≡ kids_at rows n
-    → WalksFour rows k kids old packed.squares.items all → get nat_eq packed.numbers n ≡ None → list_any (same_row (row_by level all)) packed.squares.items ≡ false
+    → WalksFour rows k kids old packed.squares.items all → known_of packed.numbers n ≡ None → list_any (same_row (row_by level all)) packed.squares.items ≡ false
 unknown_new rows packed old level k n kids all e packing high is read w unknown =
     rw e (unknown_suc rows packed old k n kids all _ packing (omega (arith, e, high)) (subst (λ j. IsNumber rows j n) e is) read w unknown refl)
 
@@ -159,21 +161,27 @@ known_kept rows old new k n (Some m) grows h = Has-grown k (square_in rows k n) 
 
 -- one more square of the table is packed, after its quadrants
 module _ (rows : List (List ℕ)) (mid new : Packed) (level n m : ℕ) (all : List ℕ)
-    (packing : IsPacking rows mid) (is : IsNumber rows level n) (unknown : get nat_eq mid.numbers n ≡ None)
+    (packing : IsPacking rows mid) (is : IsNumber rows level n) (unknown : known_of mid.numbers n ≡ None)
     (er : (number_row (row_by level all) mid.squares.items).rows ≡ new.squares.items) (en : (number_row (row_by level all) mid.squares.items).number ≡ m)
-    (updates : Updates nat_eq mid.numbers new.numbers n (Some m)) where
+    (more : new.numbers ≡ mid.numbers ++ entry n m ∷ []) where
+  known_here : known_of new.numbers n ≡ Some m
+  known_here = ap (λ (entries : List Renumbered). known_of entries n) more ∙ known_last mid.numbers n m unknown
+
+  known_there : (q : ℕ) → (n ≡ q → ⊥) → known_of new.numbers q ≡ known_of mid.numbers q
+  known_there q other = ap (λ (entries : List Renumbered). known_of entries q) more ∙ known_other mid.numbers n m q other
+
   grown : Grows mid.squares.items new.squares.items
   grown = subst (Grows mid.squares.items) er (number_row-grows (row_by level all) mid.squares.items)
 
-  known_more : Has level (square_in rows level n) new.squares.items m → (j q : ℕ) → 0 < j → IsNumber rows j q → IfSome (get nat_eq new.numbers q) (Has j (square_in rows j q) new.squares.items)
+  known_more : Has level (square_in rows level n) new.squares.items m → (j q : ℕ) → 0 < j → IsNumber rows j q → IfSome (known_of new.numbers q) (Has j (square_in rows j q) new.squares.items)
   known_more has j q low is_q =
       elim (cases_eq n q) [
         | inl same ↦
             let alike : level ≡ j = one_level rows level j n is (subst (IsNumber rows j) (sym same) is_q) in
-            subst (λ p. IfSome (get nat_eq new.numbers p) (Has j (square_in rows j p) new.squares.items)) same
-            (subst (λ (o : Option ℕ). IfSome o (Has j (square_in rows j n) new.squares.items)) (sym updates.1) (subst (λ l. Has l (square_in rows l n) new.squares.items m) alike has))
+            subst (λ p. IfSome (known_of new.numbers p) (Has j (square_in rows j p) new.squares.items)) same
+            (subst (λ (o : Option ℕ). IfSome o (Has j (square_in rows j n) new.squares.items)) (sym known_here) (subst (λ l. Has l (square_in rows l n) new.squares.items m) alike has))
         | inr other ↦
-            subst (λ (o : Option ℕ). IfSome o (Has j (square_in rows j q) new.squares.items)) (sym (updates.2 q (ne_eqb n q other))) (known_kept rows mid.squares.items new.squares.items j q _ grown (packing.known j q low is_q))
+            subst (λ (o : Option ℕ). IfSome o (Has j (square_in rows j q) new.squares.items)) (sym (known_there q other)) (known_kept rows mid.squares.items new.squares.items j q _ grown (packing.known j q low is_q))
       ]
 
   seen_before : (i : ℕ) → i < length mid.squares.items → IsSeen rows new i
@@ -182,28 +190,36 @@ module _ (rows : List (List ℕ)) (mid new : Packed) (level n m : ℕ) (all : Li
       let last = new.squares.items in
       let s = packing.seen i before in
       let kept : get_or last i no_row ≡ get_or old i no_row = row_kept old last i grown before in
-      let other : n ≡ s.number → ⊥ = λ same. none_some (suc i) (get nat_eq mid.numbers n) unknown (ap (get nat_eq mid.numbers) same ∙ s.known) in
+      let other : n ≡ s.number → ⊥ = λ same. none_some (suc i) (known_of mid.numbers n) unknown (ap (known_of mid.numbers) same ∙ s.known) in
       record {
         number = s.number;
         numbered = subst (λ (r : SquareRow). IsNumber rows r.level s.number) (sym kept) s.numbered;
         square = row_square-kept old last i grown packing.valid before ∙ s.square ∙ ap (λ (r : SquareRow). square_in rows r.level s.number) (sym kept);
-        known = updates.2 s.number (ne_eqb n s.number other) ∙ s.known;
+        known = known_there s.number other ∙ s.known;
       }
 
   seen_last : listed.square_in new.squares.items level m ≡ square_in rows level n → (i : ℕ) → i ≡ length mid.squares.items
       → new.squares.items ≡ mid.squares.items ++ row_by level all ∷ [] → m ≡ length mid.squares.items + 1 → IsSeen rows new i
-  seen_last named i place more count = grind (arith, get_or_push)
+  seen_last named i place last count =
+      let row : get_or new.squares.items i no_row ≡ row_by level all = grind (arith, get_or_push) in
+      record {
+        number = n;
+        numbered = subst (λ (r : SquareRow). IsNumber rows r.level n) (sym row) is;
+        square = subst (λ (r : SquareRow). listed.square_in new.squares.items r.level (suc i) ≡ square_in rows r.level n) (sym row)
+            (subst (λ j. listed.square_in new.squares.items level j ≡ square_in rows level n) (omega (arith, place, count)) named);
+        known = known_here ∙ ap Some (omega (arith, place, count));
+      }
 
   seen_more : list_any (same_row (row_by level all)) mid.squares.items ≡ false → listed.square_in new.squares.items level m ≡ square_in rows level n → (i : ℕ) → i < length new.squares.items → IsSeen rows new i
   seen_more none named i within = grind (arith, cases_lt, seen_before, row_more, seen_last, length_push)
 
 pub packed_more : (rows : List (List ℕ)) (old mid new : Packed) (level k n m : ℕ) (kids all : List ℕ) → level ≡ suc k → level ≤ 62 → IsPacking rows old → Packs rows k old mid → IsNumber rows level n → kids ≡ kids_at rows n
-    → get nat_eq old.numbers n ≡ None → WalksFour rows k kids old.squares.items mid.squares.items all
+    → known_of old.numbers n ≡ None → WalksFour rows k kids old.squares.items mid.squares.items all
     → (number_row (row_by level all) mid.squares.items).rows ≡ new.squares.items → (number_row (row_by level all) mid.squares.items).number ≡ m → length new.squares.items < 2 ^ 32
-    → Updates nat_eq mid.numbers new.numbers n (Some m) → Packs rows level old new
-packed_more rows old mid new level k n m kids all e high packing packs is read none w er en few updates =
+    → new.numbers ≡ mid.numbers ++ entry n m ∷ [] → Packs rows level old new
+packed_more rows old mid new level k n m kids all e high packing packs is read none w er en few more =
     let last = new.squares.items in
-    let unknown : get nat_eq mid.numbers n ≡ None = packs.above level n (omega (arith, e)) is ∙ none in
+    let unknown : known_of mid.numbers n ≡ None = packs.above level n (omega (arith, e)) is ∙ none in
     let walk = walk_whole rows level k n kids all old.squares.items mid.squares.items last m e read w er en in
     let sounds : IsSound level (square_in rows level n) (record { rows = last; number = m }) =
     subst (IsSound level (square_in rows level n)) walk (number_square-sound level (square_in rows level n) old.squares.items packing.valid (record { has = packing.each }) (square_in-IsSquare rows level n is) high) in
@@ -214,16 +230,16 @@ packed_more rows old mid new level k n m kids all e high packing packs is read n
         valid = sounds.valid;
         each = sounds.each.has;
         few = few;
-        known = known_more rows mid new level n m all packs.packing is unknown er en updates (walked_has level (square_in rows level n) old.squares.items last m walk);
-        seen = seen_more rows mid new level n m all packs.packing is unknown er en updates new_row sounds.square;
+        known = known_more rows mid new level n m all packs.packing is unknown er en more (walked_has level (square_in rows level n) old.squares.items last m walk);
+        seen = seen_more rows mid new level n m all packs.packing is unknown er en more new_row sounds.square;
       };
       above = λ j q h is_q.
           let other : n ≡ q → ⊥ = λ same. let alike : level ≡ j = one_level rows level j n is (subst (IsNumber rows j) (sym same) is_q) in absurd (omega (arith, h, alike)) in
-          updates.2 q (ne_eqb n q other) ∙ packs.above j q (omega (arith, e, h)) is_q;
+          known_there rows mid new level n m all packs.packing is unknown er en more q other ∙ packs.above j q (omega (arith, e, h)) is_q;
     }
 
 -- with nothing packed
-pub packing_none : (rows : List (List ℕ)) (packed : Packed) → AreDistinct rows → packed.squares.items ≡ [] → packed.numbers.entries ≡ [] → IsPacking rows packed
+pub packing_none : (rows : List (List ℕ)) (packed : Packed) → AreDistinct rows → packed.squares.items ≡ [] → packed.numbers ≡ [] → IsPacking rows packed
 packing_none rows packed distinct none empty = grind (arith, AreRows-none, EachHas-none)
 
 -- the rows of quadrants are of lower levels

@@ -5,4 +5,5 @@ pub mod Centred
 pub mod Laying
 pub mod Loading
 pub mod Made
+pub mod Renumbering
 pub mod Packing

@@ -1,6 +1,5 @@
 -- Squares of a table that become the rows of a plane.
-use Rattle.std.specs.Prelude.{◌≡◌, ℕ, suc, ◌-◌, ◌<◌, ◌^◌, List, length, get_or, nat_eq, Some, IfSome}
-use Rattle.std.specs.HashMap.{get}
+use Rattle.std.specs.Prelude.{◌≡◌, ℕ, suc, ◌-◌, ◌<◌, ◌^◌, List, length, get_or, Some, IfSome}
 use Rattle.worlds.specs.Square.{Square}
 use Rattle.plane_core.specs.declared.row.SquareRow.{SquareRow}
 use Rattle.plane_core.specs.Rows as listed
@@ -10,6 +9,7 @@ use Rattle.plane_core.specs.Centre.{centred}
 use Rattle.square_table.specs.declared.pack.Packed.{Packed}
 use Rattle.square_table.specs.declared.pack.Quarters.{Quarters}
 use Rattle.square_table.specs.declared.square.Square as squares
+use Rattle.square_table.specs.Renumbering.{known_of}
 use Rattle.square_table.specs.Squares.{Table, IsNumber, square_in, square_of, AreDistinct, level_of, cells_of}
 use Rattle.square_table.specs.Centred.{CentredAlike}
 
@@ -20,7 +20,7 @@ pub record IsSeen (rows : List (List ℕ)) (packed : Packed) (i : ℕ) : Type 0 
   pub square : listed.square_in packed.squares.items
       (get_or packed.squares.items i no_row).level (suc i)
       ≡ square_in rows (get_or packed.squares.items i no_row).level number
-  pub known : get nat_eq packed.numbers number ≡ Some (suc i)
+  pub known : known_of packed.numbers number ≡ Some (suc i)
 
 -- the rows are a plane's, each of one square of the table, and of such squares their numbers are
 -- remembered
@@ -31,14 +31,14 @@ pub record IsPacking (rows : List (List ℕ)) (packed : Packed) : Type 0 where
       Has k (listed.square_in packed.squares.items k n) packed.squares.items n
   pub few : length packed.squares.items < 2 ^ 32
   pub known : (k n : ℕ) → 0 < k → IsNumber rows k n →
-      IfSome (get nat_eq packed.numbers n) (Has k (square_in rows k n) packed.squares.items)
+      IfSome (known_of packed.numbers n) (Has k (square_in rows k n) packed.squares.items)
   pub seen : (i : ℕ) → i < length packed.squares.items → IsSeen rows packed i
 
 -- squares of levels up to k are packed, and what is remembered of others is as it was
 pub record Packs (rows : List (List ℕ)) (k : ℕ) (old new : Packed) : Type 0 where
   pub packing : IsPacking rows new
   pub above : (j n : ℕ) → k < j → IsNumber rows j n →
-      get nat_eq new.numbers n ≡ get nat_eq old.numbers n
+      known_of new.numbers n ≡ known_of old.numbers n
 
 -- the walk of the four squares of level k that the kids stand for gives them these numbers
 pub record WalksFour (rows : List (List ℕ)) (k : ℕ) (kids : List ℕ) (old new : List SquareRow)

@@ -19,6 +19,7 @@ mod laws;
 mod lay;
 mod load;
 mod pack;
+mod renumbering;
 mod square;
 mod table;
 

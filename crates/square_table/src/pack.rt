@@ -11,11 +11,11 @@ ghost use Rattle.square_table.specs.Centred.{IsCentred};
 ghost use Rattle.square_table.specs.Packing.{IsPacking, Packs, WalksFour, IsPadded, AreAlike, IsAlike, square_by};
 
 use crate::chains::is_same;
+use crate::renumbering::Renumbering;
 use crate::square::Square;
 use crate::table::SquareTable;
 use plane_core::{Plane, SquareRow};
 use std::alloc::AllocError;
-use std::collections::HashMap;
 
 // The highest level of a plane's root.
 const MOST_LEVEL: u8 = 62;
@@ -27,12 +27,11 @@ struct Quarters {
     level: u8,
 }
 
-// The rows that are packed, and by the number in the table of each square that was seen its number
-// among them. A list by the table's numbers would cost what the table holds, which may be far more.
+// The rows that are packed, and for each square of the table that was seen its number among them.
 #[derive(Drop)]
 struct Packed {
     squares: Vec<SquareRow>,
-    numbers: HashMap<u32, u32>,
+    numbers: Renumbering,
 }
 
 // The number of a row that isn't among the others, of which it becomes the last; 0 where it is empty.
@@ -186,8 +185,8 @@ impl<'a> SquareTable<'a> {
         if level == 0 {
             return Ok(number);
         }
-        if let Some(known) = packed.numbers.get(&number) {
-            return Ok(*known);
+        if let Some(known) = packed.numbers.get(number) {
+            return Ok(known);
         }
         let kids = self.pack_kids(packed, level - 1, self.quadrants(number))?;
         let known = complete(&mut packed.squares, SquareRow { level, kids })?;
@@ -196,46 +195,49 @@ impl<'a> SquareTable<'a> {
     }
 
     // Nothing is packed yet.
-    fn nothing(&self) -> Packed
+    fn nothing(&self, places: Vec<u32>) -> Packed
         ensures packing { IsPacking self.now.rows result }
         ensures none { result.squares.items ≡ [] }
     {
         Packed {
             squares: Vec::new(self.alloc()),
-            numbers: HashMap::new(self.alloc()),
+            numbers: Renumbering::new(self.alloc(), places),
         }
     }
 
-    // The rows that a walk of a square completes.
-    fn pack_rows(&self, root: Quarters) -> Result<Vec<SquareRow>, AllocError>
+    // The rows that a walk of a square completes, packed by a list that may have served before.
+    fn pack_rows(&self, root: Quarters, places: Vec<u32>) -> Result<Packed, AllocError>
         requires level { (1 ≤ root.level) × (root.level ≤ 62) }
         requires numbers { AreNumbers self.now.rows (root.level - 1) root.kids }
-        ensures { IfOk result (λ rows.
-            completed root.level (square_by self.now.rows root) ≡ rows.items) }
+        ensures { IfOk result (λ packed.
+            completed root.level (square_by self.now.rows root) ≡ packed.squares.items) }
     {
-        let mut packed = self.nothing();
+        let mut packed = self.nothing(places);
         let kids = self.pack_kids(&mut packed, root.level - 1, root.kids)?;
         let row = SquareRow {
             level: root.level,
             kids,
         };
         complete(&mut packed.squares, row)?;
-        Ok(packed.squares)
+        Ok(packed)
     }
 
     /// The plane whose cells round (0, 0) are those of the square, of a level of at least 1.
     ///
     /// It costs a step and some bytes for each distinct square in it, however many others the table
-    /// holds. It is refused for memory alone.
-    pub fn pack(&self, square: Square<'a>) -> Result<Plane, AllocError>
-        requires held { IsHeld self.now square }
+    /// holds. It is refused for memory alone, and leaves the table as it was.
+    pub fn pack(&mut self, square: Square<'a>) -> Result<Plane, AllocError>
+        requires held { IsHeld self.old square }
         requires level { 1 ≤ level_of square }
         requires world { (w : World) × HasMargin 0 w
-            × IsCentred w (level_of square) (cells_of self.now square) }
-        ensures { IfOk result (λ plane.
-            IsCentred plane (level_of square.entry) (cells_of self.now square.entry)) }
+            × IsCentred w (level_of square) (cells_of self.old square) }
+        ensures plane { IfOk result (λ plane.
+            IsCentred plane (level_of square.entry) (cells_of self.old square.entry)) }
+        ensures same { self.new ≡ self.old }
     {
-        let rows = self.pack_rows(self.root(square))?;
-        Plane::from_walked(self.alloc(), rows)
+        let places = self.take_places();
+        let packed = self.pack_rows(self.root(square), places)?;
+        self.keep_places(packed.numbers.into_places());
+        Plane::from_walked(self.alloc(), packed.squares)
     }
 }

@@ -32,6 +32,8 @@ pub struct SquareTable<'a> {
     none: &'a [u32; 4],
     rows: Vec<Row>,
     heads: Vec<u32>,
+    // What a packing renumbers squares by, for the next one.
+    places: Vec<u32>,
     limit: u32,
     alloc: Global,
 }
@@ -80,6 +82,7 @@ impl<'a> SquareTable<'a> {
             none: placed(arena, [0; 4])?,
             rows: Vec::new(alloc),
             heads: chains(alloc, FEWEST_CHAINS)?,
+            places: Vec::new(alloc),
             limit,
             alloc,
         })
@@ -99,6 +102,20 @@ impl<'a> SquareTable<'a> {
         ensures { AreDistinct self.now.rows }
     {
         self.alloc
+    }
+
+    // What the packing before renumbered squares by.
+    pub(crate) fn take_places(&mut self) -> Vec<u32>
+        ensures { self.new ≡ self.old }
+    {
+        std::mem::replace(&mut self.places, Vec::new(self.alloc))
+    }
+
+    // The same, for the next packing.
+    pub(crate) fn keep_places(&mut self, places: Vec<u32>)
+        ensures { self.new ≡ self.old }
+    {
+        self.places = places;
     }
 
     /// How many squares it holds, cells not counted.

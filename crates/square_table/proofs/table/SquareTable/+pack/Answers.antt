@@ -1,7 +1,5 @@
-use Rattle.std.proofs.Common.{◌≡◌, ◌-◌, None, sym, ap, ◌∙◌, arith}
-use Rattle.std.specs.Prelude.{nat_eq}
-use Rattle.std.specs.HashMap.{get}
-use Rattle.std.specs.Option.{option_copied}
+use Rattle.std.proofs.Common.{◌≡◌, ◌-◌, None, sym, ◌∙◌, arith}
+use Rattle.square_table.specs.Renumbering.{known_of}
 use Rattle.square_table.proofs.Packing.{level_suc, packed_more, packed_state, packs_none, packs_then, quadrant_numbers, recalled, unknown_new, walk_whole}
 use Rattle.square_table.proofs.table.SquareTable.+pack.Goals as goal
 
@@ -48,6 +46,11 @@ pack_square-complete-requires-clause-new t c = grind (arith, unknown_new, level_
 pub pack_square-complete-requires-clause-few : goal.pack_square-complete-requires-clause-few
 pack_square-complete-requires-clause-few t c = c.in_ok-kids.ensures.packs.packing.few
 
+pub pack_square-insert-requires : goal.pack_square-insert-requires
+pack_square-insert-requires t c =
+    let none : known_of c.args.packed.now.numbers c.args.number ≡ None = sym c.get.ensures ∙ c.in_default.is in
+    record { new = c.in_ok-kids.ensures.packs.above c.args.level c.args.number (omega (arith, c.if-level-eq0.false)) c.requires.number ∙ none }
+
 pub pack_square-returns-clause-walks : goal.pack_square-returns-clause-walks
 pack_square-returns-clause-walks t c =
     let k = c.args.level in
@@ -57,7 +60,7 @@ pack_square-returns-clause-walks t c =
 pub pack_square-returns-clause-packs : goal.pack_square-returns-clause-packs
 pack_square-returns-clause-packs t c =
     let k = c.args.level in
-    let none : get nat_eq c.args.packed.now.numbers c.args.number ≡ None = sym c.get.ensures.value ∙ ap option_copied c.in_default.is in
+    let none : known_of c.args.packed.now.numbers c.args.number ≡ None = sym c.get.ensures ∙ c.in_default.is in
     packed_more c.args.self.now.rows c.args.packed.now c.pack_kids.new.packed (record { squares = c.complete.new.squares; numbers = c.insert.new.self }) k (k - 1) c.args.number c.in_ok-known.known c.quadrants.result c.in_ok-kids.kids
     (level_suc k (omega (arith, c.if-level-eq0.false))) (omega (arith, c.requires.level)) c.requires.packed c.in_ok-kids.ensures.packs c.requires.number c.quadrants.ensures none
-    c.in_ok-kids.ensures.walks c.in_ok-known.ensures.rows c.in_ok-known.ensures.number c.in_ok-known.ensures.few c.in_ok-insert.ensures.updates
+    c.in_ok-kids.ensures.walks c.in_ok-known.ensures.rows c.in_ok-known.ensures.number c.in_ok-known.ensures.few c.in_ok-insert.ensures
