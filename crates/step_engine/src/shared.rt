@@ -61,12 +61,12 @@ pub fn evolve_by<Q: Ask, S: Stop>(
     let mut table = no_squares(alloc, &arena, limit)?;
     let root = rooted(&mut table, None, plane, generations)?;
     let found = result(alloc, &mut table, rule, root, generations, stop)?;
-    let plane = table.pack(found.square)?;
     let report = Report {
         squares: table.len(),
         fours: found.fours,
         base: found.base,
     };
+    let plane = table.pack(found.square)?;
     Ok(Evolved { plane, report })
 }
 

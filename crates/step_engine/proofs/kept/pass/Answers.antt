@@ -32,4 +32,4 @@ returns-in_err-found-clause-no_room g c = λ h. search-spent c.rooted.ensures.ad
 pub returns-clause-plane : goal.returns-clause-plane
 returns-clause-plane g c =
     let root = root-for c.rooted.ensures.adds c.in_ok-root.ensures.root in
-    one_world _ _ _ _ c.in_ok-later.ensures (root-later (g.Q.Ask.meaning c.args.rule.now) (g.met.Q.Ask.quiet c.args.rule.now) root c.in_ok-found.ensures.square)
+    one_world _ _ _ _ c.in_ok-later.ensures.plane (root-later (g.Q.Ask.meaning c.args.rule.now) (g.met.Q.Ask.quiet c.args.rule.now) root c.in_ok-found.ensures.square)

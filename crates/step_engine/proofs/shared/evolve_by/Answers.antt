@@ -29,7 +29,7 @@ returns-clause-evolved g c =
     let counts = c.in_ok-found.ensures.found in
     let few : c.len.result ≤ c.args.limit = search rules in
     record {
-      plane = one_world c.in_ok-plane.plane _ _ _ c.in_ok-plane.ensures (root-later next (g.met.Q.Ask.quiet c.args.rule.now) (root-for adds rooted) counts.square);
+      plane = one_world c.in_ok-plane.plane _ _ _ c.in_ok-plane.ensures.plane (root-later next (g.met.Q.Ask.quiet c.args.rule.now) (root-for adds rooted) counts.square);
       report = record {
         within = record { squares = few; fours = omega (arith, counts.few, c.len.ensures.count); base = counts.base };
         k = adds.k;
