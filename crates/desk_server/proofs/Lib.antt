@@ -7,12 +7,11 @@ pub mod Parts
 pub mod Pushed
 pub mod Rounds
 pub mod Noted
-pub mod Pictured
+pub mod Known
 pub mod Plain
 pub mod RuleStates
 pub mod OneLine
 pub mod Lines
-pub mod Example
 pub mod Anew
 pub mod Remade
 pub mod Written

@@ -16,6 +16,5 @@ pub mod Told
 pub mod Heard
 pub mod Run
 pub mod Watch
-pub mod Example
 pub mod Ending
 pub mod Anew

@@ -1,7 +1,6 @@
 -- What is seen of a run: the desk after each reply but `bye`, and the settlings that compute one.
-use Rattle.std.specs.Prelude.{◌≡◌, ◌⊎◌, ℕ, ◌+◌, ◌-◌, ◌^◌, ◌<◌, ◌≤◌, Bool, true, false, List, [], ◌∷◌, ◌++◌, Option, ⊤, length}
-use Rattle.std.specs.Prelude.{IfSome, IsSome, Result, Ok, Err, Some, None, count_by, sum_by, flat_map, is_some, not}
-use Rattle.std.specs.List.{AllByRecursion}
+use Rattle.std.specs.Prelude.{◌≡◌, ◌⊎◌, ℕ, ◌+◌, true, List, [], ◌∷◌, ◌++◌, Option, ⊤}
+use Rattle.std.specs.Prelude.{IfSome, Result, Ok, Err}
 use Rattle.std.specs.Io.KnownBytes.{Appends}
 use Rattle.std.specs.Io.Iter.{u64_saturate}
 use Rattle.script_lines.specs.Ahead.{LineReading}
@@ -10,20 +9,15 @@ use Rattle.revision_jobs.specs.Answer.{JobResult}
 use Rattle.revision_jobs.specs.Posted.{PostView}
 use Rattle.dependency_book.specs.BookState.{BookState}
 use Rattle.dependency_book.specs.Shown.{IsPending}
-use Rattle.desk_events.specs.Wanted.{bookmark_in}
-use Rattle.schedule.specs.Plan.{Plan, opening}
+use Rattle.schedule.specs.Plan.{opening}
 use Rattle.desk_core.specs.Looks.{LooksOn}
-use Rattle.desk_board.specs.Picture.{Picture, IsRight, picture_of}
-use Rattle.desk_board.specs.History.{History, ShowsNext, history}
-use Rattle.desk_board.specs.declared.row.ShownRow.{ShownRow}
 use Rattle.desk_server.specs.Shortage.{Shortage, AllCausedOver}
-use Rattle.desk_server.specs.Answer.{Ask, Obey, After}
+use Rattle.desk_server.specs.Answer.{Ask, Obey}
 use Rattle.desk_server.specs.Script.{Answered, answered_with, but_bye, replies_with}
-use Rattle.desk_server.specs.Told.{TellsPending, IsRefused, ends, shown_text}
+use Rattle.desk_server.specs.Told.{TellsPending, IsRefused, ends}
 use Rattle.desk_server.specs.Heard.{Gives}
 use Rattle.desk_server.specs.declared.command.Command.TheVariants as command
 use Rattle.desk_server.specs.declared.reply.Reply.{Reply}
-use Rattle.desk_server.specs.declared.reply.Reply.TheVariants.{Settled, Shown}
 
 -- a desk was noted, or passed over and counted; the count stays at 2 ^ 64 - 1
 abbrev pub NotesOrCounts
@@ -164,89 +158,3 @@ abbrev pub NotesRun
 NotesRun notes (Ok missed) p q r w x old new = NotesReplies notes missed p q r w x old new
 NotesRun notes (Err fault) p q r w x old new =
     IfSome r.ahead.bytes (NotesFront notes p q old new)
-
--- the picture of a desk at which this answer was given
-pub record IsPictureAfter (after : After) (s : Picture) : Type 0 where
-  pub desk : BookState
-  pub reply : Reply
-  pub gives : Gives after reply desk
-  pub pending : TellsPending reply desk
-  pub is : s ≡ picture_of desk
-  pub right : IsRight s
-
--- pictures of this document, whose texts are right
-abbrev pub ArePicturesOf : Plan → List Picture → Type 0
-ArePicturesOf plan = AllByRecursion (λ (s : Picture). (s.plan ≡ plan) × IsRight s)
-
--- what a history shows of one answer: how many answers its post gave for it, pictures that were put
--- behind the history before, and the picture that was put there after it, unless it was left out
-pub record Showing : Type 0 where
-  pub gave : ℕ
-  pub before : List Picture
-  pub own : Option Picture
-
--- the picture, if there is one
-abbrev pub if_any : Option Picture → List Picture
-if_any None = []
-if_any (Some s) = s ∷ []
-
-abbrev pub pictures_in : Showing → List Picture
-pictures_in showing = showing.before ++ if_any showing.own
-
-abbrev pub is_left_out : Showing → Bool
-is_left_out showing = not (is_some showing.own)
-
--- what computes if it has to: a settling and a show
-abbrev pub may_compute : Ask → Bool
-may_compute (Obey command.Settle) = true
-may_compute (Obey (command.Show id)) = true
-may_compute _ = false
-
--- pictures of the document that the answer leaves, at most one more than answers of its post and
--- none where nothing is computed, and the picture of a desk at which it was given
-pub record ShowsAnswer (one : Answered) (showing : Showing) : Type 0 where
-  pub before : ArePicturesOf one.1.plan showing.before
-  pub few : length showing.before ≤ showing.gave + 1
-  pub none : may_compute one.0 ≡ false → showing.before ≡ []
-  pub own : IfSome showing.own (IsPictureAfter one.1)
-
--- so it is for each of these answers, in order
-abbrev pub ShowAnswers : List Showing → List Answered → Type 0
-ShowAnswers [] [] = ⊤
-ShowAnswers [] (one ∷ given) = ⊥
-ShowAnswers (showing ∷ showings) [] = ⊥
-ShowAnswers (showing ∷ showings) (one ∷ given) =
-    ShowsAnswer one showing × ShowAnswers showings given
-
--- the history went on by what it shows of these answers, in order, for which the post gave all that
--- it gave; so many pictures of their own were left out, where 2 ^ 64 - 1 may stand for more
-pub record ShowsOrCounts (old new : Moment History) (given : List Answered) : Type 0 where
-  pub showings : List Showing
-  pub goes_on : new.seen
-      ≡ history old.seen.board (old.seen.pictures ++ flat_map pictures_in showings)
-  pub answers : ShowAnswers showings given
-  pub gave : length new.post.answers
-      ≡ length old.post.answers + sum_by (λ (showing : Showing). showing.gave) showings
-  pub left_out : new.missed < 2 ^ 64 - 1 → count_by is_left_out showings ≡ new.missed
-  pub all : new.missed ≡ 0 → AllByRecursion (λ (showing : Showing). IsSome showing.own) showings
-
--- what was noted or passed over in turn, told of the whole history: where none was passed over, it
--- shows for each answer, in order, the picture of the desk that gave it
-abbrev pub ShowsAllUnlessCounted : Type 0
-ShowsAllUnlessCounted =
-    (old new : Moment History) (given : List Answered) → old.missed ≡ 0
-    → NotesEach ShowsNext old new given → ShowsOrCounts old new given
-
--- what a reply tells is what a picture shows: with all settled each row has its text, and a
--- bookmark that is shown, current or pending, is so in its row
-pub record IsAsTold (reply : Reply) (told : List ℕ) (s : Picture) : Type 0 where
-  pub settled : reply ≡ Settled → AllByRecursion (λ (row : ShownRow). IsSome row.text) s.rows
-  pub shown : (id : ℕ) → reply ≡ Shown id
-      → AllByRecursion (λ (row : ShownRow). row.bookmark.id ≡ id
-      → told ≡ shown_text id (bookmark_in s.plan.bookmarks id) row.text) s.rows
-
--- the picture of the desk at which an answer was given shows what its reply tells
-abbrev pub ShowsWhatIsTold : Type 0
-ShowsWhatIsTold =
-    (after : After) (s : Picture) → (is : IsPictureAfter after s)
-    → IsAsTold is.reply after.told s

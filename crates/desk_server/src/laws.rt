@@ -1,10 +1,8 @@
 //! Laws of the definitions, each the contract of a function that does nothing.
 ghost use Rattle.desk_server.specs.Anew.{EditLinesReadBack, KeptTextsAreRules, ScriptsMakeAnew};
 ghost use Rattle.desk_server.specs.Anew.{WhateverIsScriptedIsMadeAnew};
-ghost use Rattle.desk_server.specs.Example.{PicturesOfOne};
 ghost use Rattle.desk_server.specs.OneLine.{DocumentsAreSound, OneLineWithoutBranch};
 ghost use Rattle.desk_server.specs.Plain.{PlainWithoutShortages};
-ghost use Rattle.desk_server.specs.Watch.{ShowsAllUnlessCounted, ShowsWhatIsTold};
 
 /// Where no reply shows a want, the replies are those where none is met.
 #[tactic(auto, using(crate::proofs::Plain::afters_plain))]
@@ -23,27 +21,6 @@ pub fn documents_are_sound()
 #[tactic(auto, using(crate::proofs::OneLine::documents_one_line))]
 pub fn one_line_without_branch()
     ensures { OneLineWithoutBranch }
-{}
-
-/// Where no snapshot was refused, the history has one more for each reply but `bye`, in order.
-#[tactic(auto, using(crate::proofs::Noted::shows_all))]
-pub fn shows_all_unless_counted()
-    ensures { ShowsAllUnlessCounted }
-{}
-
-/// A snapshot shows what the reply before it tells: after `settled` each row has its text, and the
-/// bookmark that is shown has in its row the text that was told, or none where it is pending.
-#[tactic(auto, using(crate::proofs::Pictured::shows_told))]
-pub fn shows_what_is_told()
-    ensures { ShowsWhatIsTold }
-{}
-
-/// Worked pictures, to which that law applies. A desk has one bookmark. With its text the picture
-/// stands after `settled` and after the text was shown, and without it after the bookmark was told
-/// to be pending.
-#[tactic(auto, using(crate::proofs::Example::pictures_of_one))]
-pub fn pictures_of_one_bookmark()
-    ensures { PicturesOfOne }
 {}
 
 /// The line of an edit, in a script that makes a document anew, asks for this edit.

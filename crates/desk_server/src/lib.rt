@@ -42,8 +42,7 @@ pub use bell::Bell;
 pub use desk_core::{Entries, InlinePost, Onlooker, Post};
 pub use laws::{
     documents_are_sound, edit_lines_read_back, kept_texts_are_rules, one_line_without_branch,
-    pictures_of_one_bookmark, plain_without_shortages, scripts_make_documents_anew,
-    shows_all_unless_counted, shows_what_is_told, whatever_is_scripted_is_made_anew,
+    plain_without_shortages, scripts_make_documents_anew, whatever_is_scripted_is_made_anew,
 };
 pub use script_lines::{CountedReader, CountedWriter};
 pub use server::{RunFault, run, run_seen};

@@ -238,7 +238,7 @@ fn compute<P: Post, O: Onlooker>(
     }
 }
 
-#[tactic(auto, using(crate::proofs::Noted::draws_more, crate::proofs::Noted::watched, crate::proofs::Jobs::nothing_out, crate::proofs::Pictured::all_known))]
+#[tactic(auto, using(crate::proofs::Noted::draws_more, crate::proofs::Noted::watched, crate::proofs::Jobs::nothing_out, crate::proofs::Known::all_known))]
 fn settle<P: Post, O: Onlooker>(
     rt: &impl Wait,
     desk: &mut Desk<'_>,

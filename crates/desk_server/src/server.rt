@@ -171,7 +171,7 @@ pub fn run_seen<R: Read, W: Write, L: Ledger, M: Ledger, P: Post, O: Onlooker>(
     // with the reply's document were looked at only for a settling or for a show of a pending
     // bookmark: one, and one more for each answer that the post gave for it. So it was for a
     // beginning of the replies where the run stopped before the script's end. What a publisher
-    // sees is put behind its board's history (`ShowsNext`).
+    // sees is put behind its board's history (`ShowsNext` of `desk_board`).
     ensures shown { NotesRun O.sees result (P.view post.old) (P.view post.new)
         reader.old writer.old writer.new onlooker.old onlooker.new }
 

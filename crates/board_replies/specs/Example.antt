@@ -11,7 +11,7 @@ use Rattle.dependency_book.specs.declared.row.RowState.{RowState}
 use Rattle.desk_board.specs.Picture.{Picture, picture}
 use Rattle.desk_server.specs.Answer.{only}
 use Rattle.desk_server.specs.Reply.{current_text, pending_text, settled_text}
-use Rattle.desk_server.specs.Watch.{IsPictureAfter}
+use Rattle.board_replies.specs.Showings.{IsPictureAfter}
 
 -- the counts at generation 0, marked in the opening document
 abbrev pub counts : Bookmark

@@ -2,7 +2,7 @@
 use Rattle.std.proofs.Common.{refl}
 use Rattle.dependency_book.specs.declared.row.RowState.TheVariants.{Empty, Known}
 use Rattle.desk_server.specs.declared.reply.Reply.TheVariants.{Settled, Shown}
-use Rattle.desk_server.specs.Example.{PicturesOfOne, counted, desk_with}
+use Rattle.board_replies.specs.Example.{PicturesOfOne, counted, desk_with}
 
 pub pictures_of_one : PicturesOfOne
 pictures_of_one = record {
