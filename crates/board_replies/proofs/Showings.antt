@@ -10,8 +10,9 @@ use Rattle.desk_board.specs.Picture.{Picture, IsRight, picture_of}
 use Rattle.desk_board.specs.History.{History, ShowsNext, history, and_then}
 use Rattle.schedule.specs.Plan.{Plan}
 use Rattle.desk_core.specs.Looks.{AreOfPlan, LooksAt, LooksAtEach}
-use Rattle.desk_server.specs.Answer.{Ask, After}
-use Rattle.desk_server.specs.Heard.{Gives}
+use Rattle.desk_script.specs.Asks.{Ask}
+use Rattle.desk_server.specs.Answer.{After}
+use Rattle.desk_server.specs.Served.{Gives}
 use Rattle.desk_server.specs.Script.{Answered}
 use Rattle.desk_server.specs.Told.{TellsPending, IsRefused}
 use Rattle.desk_server.specs.Watch.{HasToCompute, WatchesComputing, WatchesReply, Moment, NotesOrCounts, NotesReply, NotesEach}

@@ -8,12 +8,13 @@ use Rattle.schedule.specs.Plan.{Plan}
 use Rattle.desk_board.specs.Picture.{Picture, IsRight, picture_of}
 use Rattle.desk_board.specs.History.{History, ShowsNext, history}
 use Rattle.desk_board.specs.declared.row.ShownRow.{ShownRow}
-use Rattle.desk_server.specs.Answer.{Ask, Obey, After}
+use Rattle.desk_script.specs.Asks.{Ask, Obey}
+use Rattle.desk_script.specs.declared.command.Command.TheVariants as command
+use Rattle.desk_server.specs.Answer.{After}
 use Rattle.desk_server.specs.Script.{Answered}
 use Rattle.desk_server.specs.Told.{TellsPending, shown_text}
-use Rattle.desk_server.specs.Heard.{Gives}
+use Rattle.desk_server.specs.Served.{Gives}
 use Rattle.desk_server.specs.Watch.{Moment, NotesEach}
-use Rattle.desk_server.specs.declared.command.Command.TheVariants as command
 use Rattle.desk_server.specs.declared.reply.Reply.{Reply}
 use Rattle.desk_server.specs.declared.reply.Reply.TheVariants.{Settled, Shown}
 

@@ -10,11 +10,13 @@ use Rattle.schedule.specs.Plan.{Plan, opening}
 use Rattle.schedule.proofs.Shared.Changed.{HasStates}
 use Rattle.schedule.proofs.Shared.Ids.{each_filter, each_map}
 use Rattle.document_replay.proofs.Shared.Made.{IsNumbered, made, numbered_opening, numbered_step, rows_few}
+use Rattle.desk_script.specs.Asks.{Between, asks}
+use Rattle.desk_script.specs.ReadsBack.{IsCounted}
+use Rattle.desk_script.proofs.Shared.Said.{Fits, LineFits, SetsSome, asks-fit}
 use Rattle.desk_server.specs.Answer.{Session, opening_session}
-use Rattle.desk_server.specs.Script.{Between, asks}
-use Rattle.desk_server.specs.Anew.{HasText, IsCounted, IsMadeAnew, WhateverIsScriptedIsMadeAnew, sessions}
-use Rattle.desk_server.proofs.OneLine.{Fits, KeepsLimits, LineFits, SetsSome, Stays, answer-keeps, each-line}
-use Rattle.desk_server.proofs.OneLine.{asks-fit, limits-stay, opening-keeps}
+use Rattle.desk_server.specs.Anew.{HasText, IsMadeAnew, WhateverIsScriptedIsMadeAnew, sessions}
+use Rattle.desk_server.proofs.OneLine.{KeepsLimits, Stays, answer-keeps, each-line}
+use Rattle.desk_server.proofs.OneLine.{limits-stay, opening-keeps}
 use Rattle.desk_server.proofs.Remade.{scripts_anew}
 use Rattle.desk_server.proofs.RuleTexts.{kept_texts, sessions-keep}
 

@@ -1,10 +1,5 @@
-pub mod Prepends
-pub mod Lacking
 pub mod Jobs
-pub mod Hearing
 pub mod Replies
-pub mod Parts
-pub mod Pushed
 pub mod Rounds
 pub mod Noted
 pub mod Known
@@ -12,7 +7,6 @@ pub mod Plain
 pub mod RuleStates
 pub mod OneLine
 pub mod Lines
-pub mod Anew
 pub mod Remade
 pub mod Written
 pub mod RuleTexts

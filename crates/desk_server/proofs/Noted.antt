@@ -4,16 +4,17 @@ use Rattle.revision_jobs.specs.Answer.{JobResult}
 use Rattle.revision_jobs.specs.Posted.{PostView}
 use Rattle.dependency_book.specs.BookState.{BookState}
 use Rattle.desk_core.specs.Looks.{LooksOn}
-use Rattle.desk_server.specs.Answer.{Ask, Obey, After}
-use Rattle.desk_server.specs.Heard.{AsksFor}
+use Rattle.desk_script.specs.Asks.{Ask, Obey}
+use Rattle.desk_script.specs.Heard.{AsksFor}
+use Rattle.desk_script.specs.declared.command.Command.{Command}
+use Rattle.desk_script.specs.declared.fault.ScriptFault.{ScriptFault}
+use Rattle.desk_script.specs.declared.format.Format.{Format}
+use Rattle.desk_script.specs.declared.request.Request.{Request}
+use Rattle.desk_script.specs.declared.request.Request.TheVariants as request
+use Rattle.desk_server.specs.Answer.{After}
 use Rattle.desk_server.specs.Script.{Answered}
 use Rattle.desk_server.specs.Told.{TellsPending, IsRefused, reply_text, ends}
 use Rattle.desk_server.specs.Watch.{HasToCompute, AsksForAnswers, Draws, WatchesReply, Moment, moment, NotesOrCounts, NotesEach, WatchesNext}
-use Rattle.desk_server.specs.declared.command.Command.{Command}
-use Rattle.desk_server.specs.declared.fault.ScriptFault.{ScriptFault}
-use Rattle.desk_server.specs.declared.format.Format.{Format}
-use Rattle.desk_server.specs.declared.request.Request.{Request}
-use Rattle.desk_server.specs.declared.request.Request.TheVariants as request
 use Rattle.script_lines.specs.declared.text.Text.{Text}
 use Rattle.desk_server.specs.declared.reply.Reply.{Reply}
 

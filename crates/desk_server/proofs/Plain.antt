@@ -7,15 +7,16 @@ use Rattle.schedule.specs.declared.document.Bookmark.{Bookmark}
 use Rattle.desk_core.specs.declared.cause.Cause.{Cause}
 use Rattle.std.specs.List.{AllByRecursion, list_all}
 use Rattle.desk_events.specs.Wanted.{bookmark_in}
+use Rattle.desk_script.specs.Asks.{Ask, Obey, Take, Refuse}
+use Rattle.desk_script.specs.declared.fault.ScriptFault.TheVariants.{BadCommand, NoEnd}
+use Rattle.desk_script.specs.declared.command.Command.{Command}
+use Rattle.desk_script.specs.declared.command.Command.TheVariants as command
 use Rattle.desk_server.specs.Reply.{unsettled_text, settled_text, polled_text}
 use Rattle.desk_server.specs.Listed.{bookmark_line, branch_line, intervention_line, lines_of, listed_text}
 use Rattle.desk_server.specs.Shortage.{Shortage, NoShortage, Unsettled, Known, IsCaused, IsCausedOver, AllCausedOver}
-use Rattle.desk_server.specs.Answer.{Ask, Obey, Take, Refuse, After, Session, answer, only, unless_memory, edited, settled, polled, listed, shown, scripted, obeyed, session_after}
+use Rattle.desk_server.specs.Answer.{After, Session, answer, only, unless_memory, edited, settled, polled, listed, shown, scripted, obeyed, session_after}
 use Rattle.desk_server.specs.Script.{first_shortage, later_shortages, afters}
 use Rattle.desk_server.specs.Plain.{ShowsShortage, NoneShows}
-use Rattle.desk_server.specs.declared.fault.ScriptFault.TheVariants.{BadCommand, NoEnd}
-use Rattle.desk_server.specs.declared.command.Command.{Command}
-use Rattle.desk_server.specs.declared.command.Command.TheVariants as command
 
 -- an answer is the plain one, or its reply shows the shortage
 abbrev IsPlain : Bool → After → After → Type 0

@@ -46,21 +46,23 @@ use Rattle.document_replay.specs.Replay.{edits_for, row_edits}
 use Rattle.document_replay.proofs.Shared.Leading.{lead_on}
 use Rattle.document_replay.proofs.Shared.Remade.{made_anew, rows_are_made_anew}
 use Rattle.document_replay.proofs.Shared.Worlds.{start_leads}
-use Rattle.desk_server.specs.declared.format.Format.{Format}
-use Rattle.desk_server.specs.declared.format.Format.TheVariants as format
-use Rattle.desk_server.specs.declared.command.Command.TheVariants as command
-use Rattle.desk_server.specs.Command.{format_of}
+use Rattle.desk_script.specs.declared.format.Format.{Format}
+use Rattle.desk_script.specs.declared.format.Format.TheVariants as format
+use Rattle.desk_script.specs.declared.command.Command.TheVariants as command
+use Rattle.desk_script.specs.Command.{format_of}
+use Rattle.desk_script.specs.Scripted.{edit_lines, script_text, start_lines}
+use Rattle.desk_script.specs.Asks.{Ask, Obey, Take, Between, InText, asks}
+use Rattle.desk_script.specs.ReadsBack.{IsWritten}
+use Rattle.desk_script.proofs.Shared.ReadsBack.{lines_read_back}
+use Rattle.desk_script.proofs.Shared.Asks.{asks-text, asks-text_command}
 use Rattle.desk_server.specs.Faults.{of_edit, of_macrocell, of_rule}
-use Rattle.desk_server.specs.Scripted.{edit_lines, script_text, start_lines}
 use Rattle.desk_server.specs.Shortage.{NoShortage}
-use Rattle.desk_server.specs.Answer.{Ask, Obey, Take, Session, accepted, answer, edited, id_word}
+use Rattle.desk_server.specs.Answer.{Session, accepted, answer, edited, id_word}
 use Rattle.desk_server.specs.Answer.{opening_session, session_after, started, unless_fault}
-use Rattle.desk_server.specs.Script.{Between, InText, afters, asks}
-use Rattle.desk_server.specs.Anew.{CanBeWritten, HasText, IsAccepted, IsWritten, MakesAnew, ScriptsMakeAnew}
+use Rattle.desk_server.specs.Script.{afters}
+use Rattle.desk_server.specs.Anew.{CanBeWritten, HasText, IsAccepted, MakesAnew, ScriptsMakeAnew}
 use Rattle.desk_server.specs.Anew.{last_plan}
-use Rattle.desk_server.proofs.Anew.{lines_read_back}
 use Rattle.desk_server.proofs.Written.{rows-written, text-named}
-use Rattle.desk_server.proofs.Hearing.{asks-text, asks-text_command}
 
 -- an edit was asked
 record IsEdit (asked : Asked) (ask : Ask) : Type 0 where

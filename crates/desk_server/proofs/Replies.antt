@@ -14,20 +14,22 @@ use Rattle.dependency_book.specs.Shown.{IsPending, Shows}
 use Rattle.dependency_book.specs.declared.shown.Shown.{Shown}
 use Rattle.dependency_book.specs.declared.shown.Shown.TheVariants.{Current, NoSuch}
 use Rattle.dependency_book.specs.declared.shown.Shown.TheVariants as shown
+use Rattle.desk_script.specs.Asks.{Ask, Refuse}
+use Rattle.desk_script.specs.Heard.{CanLackMemory, AsksFor}
+use Rattle.desk_script.specs.declared.fault.ScriptFault.{ScriptFault}
+use Rattle.desk_script.specs.declared.format.Format.{Format}
+use Rattle.desk_script.specs.declared.command.Command.{Command}
+use Rattle.desk_script.specs.declared.request.Request.{Request}
+use Rattle.desk_script.specs.declared.request.Request.TheVariants as request
 use Rattle.desk_server.specs.Faults.{Fault, of_edit, of_script}
 use Rattle.desk_server.specs.Shortage.{NoShortage, Memory, Unsettled, Pending, Still}
-use Rattle.desk_server.specs.Answer.{Ask, Refuse, After, Session, answer, refused, CanLackMemory, only, unless_fault, settled, polled, rule_text_after}
+use Rattle.desk_server.specs.Answer.{After, Session, answer, refused, no_memory, only, unless_fault, settled, polled, rule_text_after}
 use Rattle.desk_server.specs.Answer.{shown as shown_by}
 use Rattle.desk_server.specs.Reply.{pending_text, refused_text}
 use Rattle.revision_jobs.specs.Posted.{PostView}
 use Rattle.desk_server.specs.Told.{PollsBy, reply_text, ends, shown_text}
-use Rattle.desk_server.specs.Heard.{AsksFor, Gives, GivesBy, GivesOrLacks, KeepsTaken, KeepsText, Serves, TakesText, kept_text, session}
+use Rattle.desk_server.specs.Served.{Gives, GivesBy, GivesOrLacks, KeepsTaken, KeepsText, Serves, TakesText, kept_text, session}
 use Rattle.script_lines.specs.declared.text.Text.{Text}
-use Rattle.desk_server.specs.declared.fault.ScriptFault.{ScriptFault}
-use Rattle.desk_server.specs.declared.format.Format.{Format}
-use Rattle.desk_server.specs.declared.command.Command.{Command}
-use Rattle.desk_server.specs.declared.request.Request.{Request}
-use Rattle.desk_server.specs.declared.request.Request.TheVariants as request
 use Rattle.desk_server.specs.declared.reply.Reply.{Reply}
 use Rattle.desk_server.specs.declared.reply.Reply.TheVariants as reply
 
@@ -84,12 +86,16 @@ gives-shown prompt p new id s same shows =
 pub not_pending : (d : BookState) (id : ℕ) (s : Shown) → Shows d id s → s ≢ shown.Pending → ¬ IsPending d id
 not_pending d id s none other h = grind (arith, some_of)
 
+-- what memory can run out for is answered so where it is short
+lacks : (ask : Ask) (s : Session) → CanLackMemory ask → answer Memory s ask ≡ no_memory s.plan
+lacks ask s can = grind (arith)
+
 -- memory was short for what was asked
 pub serves-memory : (prompt : Bool) (asked : Request) (r : Reply) (d : BookState) (rule : Option (List ℕ))
     → ((ask : Ask) → AsksFor asked ask → CanLackMemory ask) → reply_text d r ≡ refused_text (of_edit NoMemory)
     → ends r ≡ false → Serves prompt asked r (session d rule) d
 serves-memory prompt asked r d rule can is goes =
-    λ ask asks. (Memory, λ _. tt, grind (arith, gives-only, can ask asks (session d rule)))
+    λ ask asks. (Memory, λ _. tt, grind (arith, gives-only, lacks ask (session d rule) (can ask asks)))
 
 -- what is out of it already can
 pub none-lacks : (asked : Request) → asked ≡ request.NoMemory → (ask : Ask) → AsksFor asked ask → CanLackMemory ask

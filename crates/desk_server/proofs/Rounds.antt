@@ -14,19 +14,21 @@ use Rattle.script_lines.specs.Script.{Follows}
 use Rattle.script_lines.proofs.Shared.Told.{front_first, front_then}
 use Rattle.schedule.specs.Plan.{opening}
 use Rattle.dependency_book.specs.BookState.{BookState}
+use Rattle.desk_script.specs.Asks.{Ask, asks, Between}
+use Rattle.desk_script.specs.Heard.{AsksIfAny, Hears, BreaksOff}
+use Rattle.desk_script.specs.declared.request.Request.{Request}
+use Rattle.desk_script.proofs.Shared.Asks.{follows-any}
 use Rattle.desk_server.specs.Shortage.{Shortage, IsCaused, AllCausedOver}
-use Rattle.desk_server.specs.Answer.{Session, opening_session, rule_text_after, session_after, Ask, After, answer}
+use Rattle.desk_server.specs.Answer.{Session, opening_session, rule_text_after, session_after, After, answer}
 use Rattle.revision_jobs.specs.Posted.{PostView}
-use Rattle.desk_server.specs.Script.{asks, Between, Answered, afters, answered, answered_with, first_shortage, later_shortages, unless_bye, but_bye, texts_of, told_to, replies_to, replies_with}
+use Rattle.desk_server.specs.Script.{Answered, afters, answered, answered_with, first_shortage, later_shortages, unless_bye, but_bye, texts_of, told_to, replies_to, replies_with}
 use Rattle.desk_server.specs.Told.{reply_text, ends}
-use Rattle.desk_server.specs.Heard.{KeepsText, session, AsksIfAny, Hears, Gives, Serves, Served, BreaksOff}
+use Rattle.desk_server.specs.Served.{KeepsText, session, Gives, Serves, Served}
 use Rattle.desk_server.specs.Run.{Answers, Finishes, StopsTelling, AnswersWhole, AnswersAll, AnswersFront}
 use Rattle.desk_server.specs.Ending.{Works, Completes}
 use Rattle.desk_server.specs.Watch.{Moment, moment, NotesFront, NotesEach, NotesScript, NotesReplies, WatchesNext, WatchesReply}
-use Rattle.desk_server.specs.declared.request.Request.{Request}
 use Rattle.desk_server.specs.declared.reply.Reply.{Reply}
 use Rattle.desk_server.specs.declared.reply.Reply.TheVariants as reply
-use Rattle.desk_server.proofs.Hearing.{follows-any}
 use Rattle.desk_server.proofs.Noted.{after_of, unwatched_next}
 
 -- no failure was counted, and then none

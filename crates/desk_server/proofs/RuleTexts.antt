@@ -19,22 +19,24 @@ use Rattle.rule_tree.specs.Rule.{rule_of}
 use Rattle.schedule.specs.Asked.{Asked, ReplaceRule}
 use Rattle.schedule.specs.Change.{Changed, changed, refusal}
 use Rattle.schedule.specs.Plan.{Plan}
-use Rattle.desk_server.specs.declared.fault.ScriptFault.TheVariants.{BadCommand, NoEnd}
-use Rattle.desk_server.specs.declared.format.Format.{Format}
-use Rattle.desk_server.specs.declared.format.Format.TheVariants as format
-use Rattle.desk_server.specs.declared.command.Command.{Command}
-use Rattle.desk_server.specs.Command.{format_of}
+use Rattle.desk_script.specs.declared.fault.ScriptFault.TheVariants.{BadCommand, NoEnd}
+use Rattle.desk_script.specs.declared.format.Format.{Format}
+use Rattle.desk_script.specs.declared.format.Format.TheVariants as format
+use Rattle.desk_script.specs.declared.command.Command.{Command}
+use Rattle.desk_script.specs.Command.{format_of}
+use Rattle.desk_script.specs.Asks.{Ask, Obey, Take, Refuse, Between, InText, Place, asked_at, asked_by, asks, place_behind}
+use Rattle.desk_script.proofs.Shared.Said.{Fits, LineFits, TakesNoRule, asks-fit}
 use Rattle.desk_server.specs.Faults.{Fault, of_macrocell, of_pattern, of_rule, of_script}
 use Rattle.desk_server.specs.Shortage.{Shortage}
-use Rattle.desk_server.specs.Answer.{After, Ask, Obey, Take, Refuse, Session, answer, edited, id_word, obeyed}
+use Rattle.desk_server.specs.Answer.{After, Session, answer, edited, id_word, obeyed}
 use Rattle.desk_server.specs.Answer.{opening_session, refused, rule_text_after, session_after, started, taken}
 use Rattle.desk_server.specs.Answer.{unless_fault, unless_memory}
 use Rattle.std.specs.Prelude.{Result}
 use Rattle.std.proofs.lemmas.Bool.Decides.{nat_tests}
-use Rattle.desk_server.specs.Script.{Between, InText, Place, asked_at, asked_by, asks, first_shortage}
-use Rattle.desk_server.specs.Script.{later_shortages, place_behind}
+use Rattle.desk_server.specs.Script.{first_shortage}
+use Rattle.desk_server.specs.Script.{later_shortages}
 use Rattle.desk_server.specs.Anew.{HasText, KeptTextsAreRules, sessions}
-use Rattle.desk_server.proofs.OneLine.{Fits, LineFits, TakesNoRule, each-line, asks-fit, made-keeps}
+use Rattle.desk_server.proofs.OneLine.{each-line, made-keeps}
 use Rattle.desk_server.proofs.OneLine.{unless_fault-keeps, unless_memory-keeps}
 use Rattle.desk_server.proofs.Remade.{AreTextLines}
 use Rattle.desk_server.proofs.Replies.{rule-same}

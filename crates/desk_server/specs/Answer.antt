@@ -1,5 +1,5 @@
 -- What each command does to a document, and what is replied.
-use Rattle.std.specs.Prelude.{◌≡◌, ℕ, ◌==◌, ◌&&◌, nat_le, List, [], length, Bool, true, false, if◌then◌else◌, codes, Option, None, Some, Result, Ok, Err}
+use Rattle.std.specs.Prelude.{ℕ, ◌==◌, ◌&&◌, nat_le, List, [], length, Bool, true, false, if◌then◌else◌, codes, Option, None, Some, Result, Ok, Err}
 use Rattle.rule_tree.specs.declared.rule.Rule.{Rule as FileRule}
 use Rattle.rule_tree.specs.Rule.{rule_of}
 use Rattle.worlds.specs.World.{World}
@@ -13,23 +13,17 @@ use Rattle.schedule.specs.Asked.{Asked, asked_of, Insert, ReplaceStart, ReplaceR
 use Rattle.schedule.specs.Change.{Changed, change}
 use Rattle.schedule.specs.Scratch.{scratch}
 use Rattle.desk_events.specs.Wanted.{bookmark_in}
-use Rattle.desk_server.specs.declared.fault.ScriptFault.{ScriptFault}
-use Rattle.desk_server.specs.declared.fault.ScriptFault.TheVariants.{BadCommand, NoEnd}
-use Rattle.desk_server.specs.declared.format.Format.{Format}
-use Rattle.desk_server.specs.declared.format.Format.TheVariants as format
-use Rattle.desk_server.specs.declared.command.Command.{Command}
-use Rattle.desk_server.specs.declared.command.Command.TheVariants as command
+use Rattle.desk_script.specs.declared.fault.ScriptFault.TheVariants.{BadCommand, NoEnd}
+use Rattle.desk_script.specs.declared.format.Format.{Format}
+use Rattle.desk_script.specs.declared.format.Format.TheVariants as format
+use Rattle.desk_script.specs.declared.command.Command.{Command}
+use Rattle.desk_script.specs.declared.command.Command.TheVariants as command
+use Rattle.desk_script.specs.Asks.{Ask, Obey, Take, Refuse}
+use Rattle.desk_script.specs.Scripted.{script_text}
 use Rattle.desk_server.specs.Faults.{Fault, of_rule, of_pattern, of_macrocell, of_edit, of_script}
 use Rattle.desk_server.specs.Listed.{listed_text}
-use Rattle.desk_server.specs.Scripted.{script_text, scripted_text}
+use Rattle.desk_server.specs.Reply.{scripted_text, accepted_text, settled_text, working_text, unsettled_text, polled_text, current_text, pending_text, refused_text, bye_text}
 use Rattle.desk_server.specs.Shortage.{Shortage, Memory, Unsettled, Pending, Still, Known}
-use Rattle.desk_server.specs.Reply.{accepted_text, settled_text, working_text, unsettled_text, polled_text, current_text, pending_text, refused_text, bye_text}
-
--- what is asked of the desk: a command, what a text of a format means, or to refuse what lines say
-pub data Ask : Type 0 where
-  Obey : Command → Ask
-  Take : Format → List ℕ → Ask
-  Refuse : ScriptFault → Ask
 
 -- what a script's commands are answered by: the document, and the text of the rule that was taken
 -- last, if one was
@@ -156,10 +150,6 @@ answer short s (Take format text) = unless_memory short s.plan (taken s.plan for
 answer short s (Refuse (BadCommand line)) = unless_memory short s.plan
     (refused s.plan (of_script (BadCommand line)))
 answer short s (Refuse (NoEnd line)) = refused s.plan (of_script (NoEnd line))
-
--- where it is out of memory, that is replied and nothing changes
-abbrev pub CanLackMemory : Ask → Type 0
-CanLackMemory ask = (s : Session) → answer Memory s ask ≡ no_memory s.plan
 
 -- the text of the rule after an answer that leaves this document: that of a rule that was taken,
 -- which made one more revision, or the one before

@@ -2,7 +2,7 @@
 use Rattle.std.specs.Prelude.{◌≡◌, ℕ, ◌+◌, Bool, List, Option, IfSome, true}
 use Rattle.script_lines.specs.Ahead.{LineReading}
 use Rattle.script_lines.specs.Counted.{CountedWriting}
-use Rattle.desk_server.specs.Heard.{ReadFails}
+use Rattle.desk_script.specs.Heard.{ReadFails}
 use Rattle.desk_server.specs.Run.{AnswersAll, AnswersWhole, AnswersFront}
 
 -- no failure was counted, and what was written was handed on

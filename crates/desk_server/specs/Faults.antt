@@ -1,5 +1,5 @@
 -- What is told of what was refused.
-use Rattle.std.specs.Prelude.{ℕ, List, Option, None, Some, codes}
+use Rattle.std.specs.Prelude.{ℕ, List, Option, None, Some}
 use Rattle.rule_file.specs.declared.fault.RuleFault.{RuleFault}
 use Rattle.rule_file.specs.Faults as rule_faults
 use Rattle.multistate_rle.specs.declared.fault.RleFault.{RleFault}
@@ -8,21 +8,8 @@ use Rattle.macrocell_lines.specs.declared.fault.McFault.{McFault}
 use Rattle.macrocell_lines.specs.Faults as macrocell_faults
 use Rattle.schedule.specs.declared.fault.EditFault.{EditFault}
 use Rattle.schedule.specs.Faults as edit_faults
-use Rattle.desk_server.specs.declared.fault.ScriptFault.{ScriptFault}
-use Rattle.desk_server.specs.declared.fault.ScriptFault.TheVariants.{BadCommand, NoEnd}
-
-abbrev pub fault_number : ScriptFault → ℕ
-fault_number (BadCommand line) = 80
-fault_number (NoEnd line) = 81
-
-abbrev pub fault_name : ScriptFault → List ℕ
-fault_name (BadCommand line) = codes "BadCommand"
-fault_name (NoEnd line) = codes "NoEnd"
-
--- the line of the command
-abbrev pub fault_line : ScriptFault → ℕ
-fault_line (BadCommand line) = line
-fault_line (NoEnd line) = line
+use Rattle.desk_script.specs.declared.fault.ScriptFault.{ScriptFault}
+use Rattle.desk_script.specs.Faults.{fault_number, fault_name, fault_line}
 
 -- a refusal: its number, its name, and its line or offset if it has one
 pub record Fault : Type 0 where

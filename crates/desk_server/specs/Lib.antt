@@ -1,11 +1,6 @@
-pub mod Numbers
-pub mod View
-pub mod Command
-pub mod Cells
 pub mod Faults
 pub mod Reply
 pub mod Shortage
-pub mod Scripted
 pub mod Answer
 pub mod Script
 pub mod Plain
@@ -13,7 +8,7 @@ pub mod OneLine
 pub mod Jobs
 pub mod Listed
 pub mod Told
-pub mod Heard
+pub mod Served
 pub mod Run
 pub mod Watch
 pub mod Ending

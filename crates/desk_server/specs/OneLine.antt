@@ -1,7 +1,6 @@
 -- Scripts that add no branch.
-use Rattle.std.specs.Prelude.{◌≡◌, ℕ, List, [], ◌∷◌, Bool, false, codes}
+use Rattle.std.specs.Prelude.{◌≡◌, ℕ, List, [], false}
 use Rattle.std.specs.List.{AllByRecursion}
-use Rattle.std.specs.Str.{bytes_eq}
 use Rattle.text_lines.specs.Lines.{Ended, Line, lines_until}
 use Rattle.script_lines.specs.Words.{words}
 use Rattle.schedule.specs.declared.document.Intervention.{Intervention}
@@ -9,6 +8,7 @@ use Rattle.schedule.specs.declared.document.Bookmark.{Bookmark}
 use Rattle.schedule.specs.Laws.{IsOneLine}
 use Rattle.schedule.specs.Plan.{Plan}
 use Rattle.schedule.specs.Sound.{IsSound}
+use Rattle.desk_script.specs.Command.{adds_branch}
 use Rattle.desk_server.specs.Shortage.{Shortage}
 use Rattle.desk_server.specs.Script.{documents_with}
 
@@ -17,11 +17,6 @@ abbrev pub DocumentsAreSound : Type 0
 DocumentsAreSound =
     (script : List ℕ) (shortages : List Shortage)
     → AllByRecursion IsSound (documents_with script shortages)
-
--- the first of a line's words is the one that adds a branch
-abbrev pub adds_branch : List (List ℕ) → Bool
-adds_branch [] = false
-adds_branch (word ∷ rest) = bytes_eq word (codes "branch")
 
 -- no line of a script begins with it
 abbrev pub AddsNoBranch : List ℕ → Type 0

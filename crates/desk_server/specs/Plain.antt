@@ -4,11 +4,12 @@ use Rattle.std.specs.List.{AllByRecursion, list_all}
 use Rattle.schedule.specs.Plan.{Plan}
 use Rattle.schedule.specs.declared.fault.EditFault.TheVariants.{NoMemory}
 use Rattle.desk_core.specs.declared.cause.Cause.{Cause}
+use Rattle.desk_script.specs.Asks.{Ask}
 use Rattle.desk_server.specs.Faults.{of_edit}
 use Rattle.desk_server.specs.Reply.{unsettled_text, pending_text, polled_text, refused_text}
 use Rattle.desk_server.specs.Listed.{listed_text}
 use Rattle.desk_server.specs.Shortage.{Shortage, Unsettled, IsCausedOver, AllCausedOver}
-use Rattle.desk_server.specs.Answer.{Ask, After, Session}
+use Rattle.desk_server.specs.Answer.{After, Session}
 use Rattle.desk_server.specs.Script.{afters}
 
 -- the reply is that bookmarks are pending, for a cause if the post is prompt

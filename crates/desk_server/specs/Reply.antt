@@ -36,6 +36,10 @@ polled_text pending (Some cause) =
     codes "polled "
     ++ (decimal pending ++ (codes " " ++ (decimal (cause_number cause) ++ codes "\n")))
 
+-- a script, and how many bytes it has
+abbrev pub scripted_text : List ℕ → List ℕ
+scripted_text script = script ++ (codes "scripted " ++ (decimal (length script) ++ codes "\n"))
+
 -- a bookmark's text, after a line with its length
 abbrev pub current_text : ℕ → List ℕ → List ℕ
 current_text id text =

@@ -4,9 +4,10 @@ use Rattle.std.specs.Io.KnownBytes.{Appends}
 use Rattle.script_lines.specs.Ahead.{Ahead, Takes}
 use Rattle.text_lines.specs.Lines.{End, Ended, Broken, lines_until}
 use Rattle.script_lines.specs.Faults.{AppendsFront}
+use Rattle.desk_script.specs.Asks.{asks, Between}
 use Rattle.desk_server.specs.Shortage.{Shortage, AllCausedOver}
 use Rattle.desk_server.specs.Answer.{Session}
-use Rattle.desk_server.specs.Script.{asks, Between, Answered, answered, but_bye, told_to}
+use Rattle.desk_server.specs.Script.{Answered, answered, but_bye, told_to}
 use Rattle.desk_server.specs.Script.{replies_to, replies_by, replies_with}
 
 -- something was heard and answered: whatever follows, the answers are those that were given, which

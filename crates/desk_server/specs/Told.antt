@@ -1,7 +1,6 @@
 -- How a reply reads, with the texts that the desk knows.
-use Rattle.std.specs.Prelude.{◌≡◌, ℕ, List, ◌++◌, Bool, true, false, Option, None, Some, IfSome, IsSome, is_some, decimal, flat_map, ⊤}
+use Rattle.std.specs.Prelude.{◌≡◌, ℕ, List, ◌++◌, Bool, true, false, Option, None, Some, IfSome, IsSome, is_some, ⊤}
 use Rattle.std.specs.List.{AllByRecursion}
-use Rattle.std.specs.Fmt.{signed_decimal}
 use Rattle.schedule.specs.declared.document.Bookmark.{Bookmark}
 use Rattle.schedule.specs.declared.fault.EditFault.TheVariants.{NoSuchBookmark}
 use Rattle.revision_jobs.specs.Answer.{JobResult}
@@ -12,17 +11,14 @@ use Rattle.dependency_book.specs.Shown.{IsPending}
 use Rattle.dependency_book.specs.ShownRows.{shown_rows}
 use Rattle.desk_core.specs.Polling.{Polls}
 use Rattle.desk_core.specs.Settling.{Explains}
-use Rattle.desk_server.specs.declared.command.Command.{Command}
-use Rattle.desk_server.specs.declared.command.Command.TheVariants as command
+use Rattle.desk_script.specs.declared.command.Command.{Command}
+use Rattle.desk_script.specs.declared.command.Command.TheVariants as command
 use Rattle.desk_server.specs.declared.reply.Reply.{Reply}
 use Rattle.desk_server.specs.declared.reply.Reply.TheVariants as reply
-use Rattle.desk_server.specs.declared.part.Part.{Part}
-use Rattle.desk_server.specs.declared.part.Part.TheVariants as part
 use Rattle.desk_server.specs.Jobs.{IsDoneWith}
 use Rattle.desk_server.specs.Faults.{fault_of, of_edit}
 use Rattle.desk_server.specs.Listed.{bookmark_line, listed_text}
-use Rattle.desk_server.specs.Scripted.{scripted_text}
-use Rattle.desk_server.specs.Reply.{accepted_text, settled_text, working_text, unsettled_text, polled_text, current_text, pending_text, refused_text, bye_text}
+use Rattle.desk_server.specs.Reply.{scripted_text, accepted_text, settled_text, working_text, unsettled_text, polled_text, current_text, pending_text, refused_text, bye_text}
 
 -- a bookmark that is shown: no such one, or without or with its text
 abbrev pub shown_text : ℕ → Option Bookmark → Option (List ℕ) → List ℕ
@@ -103,12 +99,3 @@ abbrev pub PollsBy : PostView → PostView → BookState → BookState → Reply
 PollsBy p q old new (reply.Polled pending cause) =
     Polls p q old new (record { pending = pending; cause = cause })
 PollsBy p q old new _ = ⊥
-
--- the bytes of one part after the other
-abbrev pub part_text : Part → List ℕ
-part_text (part.Text bytes) = bytes.now
-part_text (part.Number n) = decimal n
-part_text (part.Signed z) = signed_decimal z
-
-abbrev pub parts_text : List Part → List ℕ
-parts_text = flat_map part_text

@@ -11,12 +11,12 @@ use Rattle.dependency_book.specs.BookState.{BookState}
 use Rattle.dependency_book.specs.Shown.{IsPending}
 use Rattle.schedule.specs.Plan.{opening}
 use Rattle.desk_core.specs.Looks.{LooksOn}
+use Rattle.desk_script.specs.Asks.{Ask, Obey}
+use Rattle.desk_script.specs.declared.command.Command.TheVariants as command
 use Rattle.desk_server.specs.Shortage.{Shortage, AllCausedOver}
-use Rattle.desk_server.specs.Answer.{Ask, Obey}
 use Rattle.desk_server.specs.Script.{Answered, answered_with, but_bye, replies_with}
 use Rattle.desk_server.specs.Told.{TellsPending, IsRefused, ends}
-use Rattle.desk_server.specs.Heard.{Gives}
-use Rattle.desk_server.specs.declared.command.Command.TheVariants as command
+use Rattle.desk_server.specs.Served.{Gives}
 use Rattle.desk_server.specs.declared.reply.Reply.{Reply}
 
 -- a desk was noted, or passed over and counted; the count stays at 2 ^ 64 - 1

@@ -1,5 +1,5 @@
 //! Laws of the definitions, each the contract of a function that does nothing.
-ghost use Rattle.desk_server.specs.Anew.{EditLinesReadBack, KeptTextsAreRules, ScriptsMakeAnew};
+ghost use Rattle.desk_server.specs.Anew.{KeptTextsAreRules, ScriptsMakeAnew};
 ghost use Rattle.desk_server.specs.Anew.{WhateverIsScriptedIsMadeAnew};
 ghost use Rattle.desk_server.specs.OneLine.{DocumentsAreSound, OneLineWithoutBranch};
 ghost use Rattle.desk_server.specs.Plain.{PlainWithoutShortages};
@@ -21,12 +21,6 @@ pub fn documents_are_sound()
 #[tactic(auto, using(crate::proofs::OneLine::documents_one_line))]
 pub fn one_line_without_branch()
     ensures { OneLineWithoutBranch }
-{}
-
-/// The line of an edit, in a script that makes a document anew, asks for this edit.
-#[tactic(auto, using(crate::proofs::Anew::lines_read_back))]
-pub fn edit_lines_read_back()
-    ensures { EditLinesReadBack }
 {}
 
 /// The script that is written of a document makes it anew: each of its commands is accepted, and

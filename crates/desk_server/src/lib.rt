@@ -18,31 +18,18 @@
 #![tactic(auto)]
 
 mod bell;
-mod cells;
-mod command;
-mod edits;
-mod fault;
-mod format;
-mod heard;
-mod interventions;
 mod laws;
 mod listing;
-mod part;
 mod reply;
-mod request;
-mod rule_text;
-mod scripting;
 mod serve;
 mod server;
-mod view;
 mod watch;
-mod words;
 
 pub use bell::Bell;
 pub use desk_core::{Entries, InlinePost, Onlooker, Post};
 pub use laws::{
-    documents_are_sound, edit_lines_read_back, kept_texts_are_rules, one_line_without_branch,
-    plain_without_shortages, scripts_make_documents_anew, whatever_is_scripted_is_made_anew,
+    documents_are_sound, kept_texts_are_rules, one_line_without_branch, plain_without_shortages,
+    scripts_make_documents_anew, whatever_is_scripted_is_made_anew,
 };
 pub use script_lines::{CountedReader, CountedWriter};
 pub use server::{RunFault, run, run_seen};

@@ -6,8 +6,8 @@ ghost use Rattle.desk_server.specs.Listed.{bookmark_line, branch_line, intervent
 ghost use Rattle.desk_server.specs.Listed.{known_words, listed_text};
 ghost use Rattle.desk_server.specs.Told.{has_text, row_line};
 
-use crate::part::{Part, tell_parts};
 use desk_core::{Desk, View};
+use desk_script::{Part, tell_parts};
 use schedule::{Acts, Bookmark, Branch, Intervention};
 use script_lines::{CountedWriter, Failed};
 use std::io::Write;

@@ -6,12 +6,12 @@ ghost use Rattle.std.specs.Option.{option_map_or};
 ghost use Rattle.desk_core.specs.Cause.{cause_number};
 ghost use Rattle.desk_server.specs.Faults.{fault_of};
 ghost use Rattle.desk_server.specs.Reply.{accepted_text, polled_text, refused_text, unsettled_text};
-ghost use Rattle.desk_server.specs.Scripted.{scripted_text};
+ghost use Rattle.desk_server.specs.Reply.{scripted_text};
 ghost use Rattle.desk_server.specs.Told.{IsRefused, TellsPending, reply_text, ends};
 
 use crate::listing::tell_list;
-use crate::part::{Part, tell_parts};
 use desk_core::{Cause, Desk, EditFault, Listing, Refusal, Shown};
+use desk_script::{Part, tell_parts};
 use script_lines::{CountedWriter, Failed};
 use std::io::Write;
 use std::sync::ledger::Ledger;

@@ -6,10 +6,12 @@ ghost use Rattle.dependency_book.specs.BookState.{NothingOut, pending_of};
 ghost use Rattle.dependency_book.specs.Shown.{IsPending};
 ghost use Rattle.desk_core.specs.Looks.{LooksOn};
 ghost use Rattle.desk_events.specs.Wanted.{bookmark_in};
-ghost use Rattle.desk_server.specs.Answer.{Ask, Obey, edited, id_word, listed, obeyed, only};
+ghost use Rattle.desk_script.specs.Asks.{Ask, Obey};
+ghost use Rattle.desk_script.specs.Heard.{AsksFor};
+ghost use Rattle.desk_server.specs.Answer.{edited, id_word, listed, obeyed, only};
 ghost use Rattle.desk_server.specs.Answer.{polled, scripted, settled, shown, started, taken};
-ghost use Rattle.desk_server.specs.Heard.{AsksFor, GivesBy, GivesOrLacks, KeepsText, Serves};
-ghost use Rattle.desk_server.specs.Heard.{KeepsTaken, TakesText, kept_text, session};
+ghost use Rattle.desk_server.specs.Served.{GivesBy, GivesOrLacks, KeepsText, Serves, KeepsTaken};
+ghost use Rattle.desk_server.specs.Served.{TakesText, kept_text, session};
 ghost use Rattle.desk_server.specs.Reply.{working_text};
 ghost use Rattle.desk_server.specs.Jobs.{Carries, CarriesOn, DropsJobs};
 ghost use Rattle.desk_core.specs.Settling.{TellsCause};
@@ -18,15 +20,11 @@ ghost use Rattle.desk_server.specs.Told.{LeavesOver, PollsBy, TakesAnswers, Tell
 ghost use Rattle.desk_server.specs.Watch.{WatchesReply};
 
 use crate::bell::Bell;
-use crate::command::Command;
-use crate::format::Format;
 use crate::reply::{Reply, refused};
-use crate::request::Request;
-use crate::rule_text::RuleText;
-use crate::scripting::script_of;
 use desk_core::{
     Cause, Desk, Edit, EditFault, Onlooker, Plane, Polled, Post, Rule, Settling, Shown, settle_seen,
 };
+use desk_script::{Command, Format, Request, RuleText, script_of};
 use multistate_macrocell::read_mc;
 use multistate_rle::read_rle;
 use plane_core::Loaded;

@@ -6,12 +6,11 @@ ghost use Rattle.desk_server.specs.Ending.{Completes, ReadStops, WriteStops};
 ghost use Rattle.desk_server.specs.Watch.{NotesRun};
 
 use crate::bell::{Bell, Silent};
-use crate::heard::{Heard, listen};
 use crate::reply::send;
-use crate::rule_text::RuleText;
 use crate::serve::serve;
 use crate::watch::note;
 use desk_core::{Desk, Entries, Onlooker, Post, Unwatched};
+use desk_script::{Heard, RuleText, listen};
 use script_lines::{CountedReader, CountedWriter, KeptLine};
 use std::alloc::Global;
 use std::io::{Read, Write};

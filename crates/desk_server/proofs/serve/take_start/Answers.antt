@@ -1,7 +1,7 @@
 use Rattle.std.proofs.Common.{subst, rules}
 use Rattle.desk_server.specs.Shortage.{Memory}
 use Rattle.desk_server.specs.Answer.{started}
-use Rattle.desk_server.specs.Heard.{GivesOrLacks}
+use Rattle.desk_server.specs.Served.{GivesOrLacks}
 use Rattle.desk_server.proofs.serve.take_start.Goals as goal
 
 pub returns-in-Ok-clause-answer : goal.returns-in-Ok-clause-answer

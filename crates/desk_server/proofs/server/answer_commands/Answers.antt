@@ -3,7 +3,7 @@ use Rattle.script_lines.specs.Input.{FailsOrFull}
 use Rattle.script_lines.proofs.Shared.Told.{wrote_is_err, wrote_is_ok}
 use Rattle.desk_server.specs.Answer.{opening_session}
 use Rattle.desk_server.specs.Ending.{Works}
-use Rattle.desk_server.specs.Heard.{session}
+use Rattle.desk_server.specs.Served.{session}
 use Rattle.desk_server.specs.Told.{ends}
 use Rattle.desk_server.specs.Watch.{moment}
 use Rattle.desk_server.specs.declared.reply.Reply.TheVariants as reply

@@ -1,7 +1,7 @@
 use Rattle.std.proofs.Common.{◌+◌}
 use Rattle.desk_server.specs.Answer.{opening_session}
 use Rattle.desk_server.specs.Ending.{Works}
-use Rattle.desk_server.specs.Heard.{session}
+use Rattle.desk_server.specs.Served.{session}
 use Rattle.desk_server.specs.Jobs.{CarriesOn}
 use Rattle.desk_server.specs.Run.{Answers}
 use Rattle.desk_server.specs.Watch.{NotesEach, moment}

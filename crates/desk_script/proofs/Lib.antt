@@ -1,0 +1,5 @@
+pub mod Prepends
+pub mod Lacking
+pub mod Hearing
+pub mod Pushed
+pub mod Shared

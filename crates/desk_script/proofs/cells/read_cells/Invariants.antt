@@ -1,0 +1,12 @@
+use Rattle.std.proofs.Common.{◌≡◌, ◌++◌, length}
+use Rattle.std.specs.Option.{option_map}
+use Rattle.script_lines.specs.Words.{words}
+use Rattle.desk_script.specs.Command.{cells_of}
+use Rattle.desk_script.proofs.cells.read_cells.Given as goal
+
+abbrev pub invariant-loop-cells : goal.invariant-loop-cells
+invariant-loop-cells l = cells_of (words l.fn.bytes) ≡ option_map (λ more. l.cells.items ++ more)
+    (cells_of (words l.rest))
+
+abbrev pub decreases-loop-cells : goal.decreases-loop-cells
+decreases-loop-cells l = length l.rest

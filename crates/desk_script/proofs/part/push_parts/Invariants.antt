@@ -1,0 +1,7 @@
+use Rattle.std.proofs.Common.{drop}
+use Rattle.desk_script.specs.Parts.{part_text}
+use Rattle.desk_script.proofs.Pushed.{IsGrowing}
+use Rattle.desk_script.proofs.part.push_parts.Given as goal
+
+abbrev pub invariant-loop-part : goal.invariant-loop-part
+invariant-loop-part l = IsGrowing part_text l.fn.text.items l.text.items (drop l.part-index l.parts) l.parts

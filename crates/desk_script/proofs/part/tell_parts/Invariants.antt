@@ -1,0 +1,12 @@
+use Rattle.std.proofs.Common.{◌≡◌, drop}
+use Rattle.std.specs.Prelude.{flat_map}
+use Rattle.script_lines.proofs.Shared.Told.{IsUnderWay}
+use Rattle.desk_script.specs.Parts.{part_text}
+use Rattle.desk_script.proofs.part.tell_parts.Given as goal
+
+abbrev pub invariant-loop-part : goal.invariant-loop-part
+invariant-loop-part g l = record {
+  told : IsUnderWay l.fn.writer.contents l.writer.contents (flat_map part_text l.parts)
+      (flat_map part_text (drop l.part-index l.parts));
+  worked : l.writer.failures ≡ l.fn.writer.failures;
+}

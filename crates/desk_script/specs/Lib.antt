@@ -1,0 +1,10 @@
+pub mod Numbers
+pub mod View
+pub mod Command
+pub mod Cells
+pub mod Faults
+pub mod Asks
+pub mod Heard
+pub mod Parts
+pub mod Scripted
+pub mod ReadsBack

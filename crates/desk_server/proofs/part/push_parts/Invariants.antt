@@ -1,7 +1,0 @@
-use Rattle.std.proofs.Common.{drop}
-use Rattle.desk_server.specs.Told.{part_text}
-use Rattle.desk_server.proofs.Pushed.{IsGrowing}
-use Rattle.desk_server.proofs.part.push_parts.Given as goal
-
-abbrev pub invariant-loop-part : goal.invariant-loop-part
-invariant-loop-part l = IsGrowing part_text l.fn.text.items l.text.items (drop l.part-index l.parts) l.parts

@@ -1,7 +1,0 @@
-use Rattle.std.proofs.Common.{drop}
-use Rattle.desk_server.specs.Scripted.{cell_words}
-use Rattle.desk_server.proofs.Pushed.{IsGrowing}
-use Rattle.desk_server.proofs.scripting.push_cells.Given as goal
-
-abbrev pub invariant-loop-cell : goal.invariant-loop-cell
-invariant-loop-cell l = IsGrowing cell_words l.fn.script.items l.script.items (drop l.cell-index l.cells) l.cells
