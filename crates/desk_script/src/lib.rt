@@ -1,8 +1,8 @@
 //! What the lines of a script ask, and a document as such lines.
 //!
 //! `listen` takes lines from a script up to the next thing that is asked: a command, or one that a
-//! text follows, with that text. What it hears is what these lines ask, whatever follows them. Where
-//! memory ran out for it, it is something for which that can happen.
+//! text follows, with that text. What it hears is what these lines ask, whatever follows them.
+//! Where memory ran out, what was asked is something for which that can happen.
 //!
 //! `script_of` writes a document as the script that makes it anew. The line of each edit in it asks
 //! for this edit.
