@@ -6,7 +6,6 @@ use Rattle.desk_script.specs.Command.{command_of, format_of}
 use Rattle.desk_script.specs.declared.fault.ScriptFault.TheVariants.{BadCommand, NoEnd}
 use Rattle.desk_script.specs.declared.format.Format.{Format}
 use Rattle.desk_script.specs.declared.command.Command.{Command}
-use Rattle.std.specs.Prelude.{ℕ, List, [], if◌then◌else◌, Option, None, Some}
 use Rattle.desk_script.specs.declared.fault.ScriptFault.{ScriptFault}
 
 -- what is asked of the desk: a command, what a text of a format means, or to refuse what lines say

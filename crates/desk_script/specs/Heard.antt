@@ -1,5 +1,5 @@
 -- What was heard of a script: the next thing that is asked, if there is one.
-use Rattle.std.specs.Prelude.{◌≡◌, ℕ, List, [], ◌∷◌, ◌++◌, Bool, true, Option, None, Some}
+use Rattle.std.specs.Prelude.{◌≡◌, ℕ, List, [], ◌∷◌, ◌++◌, Bool, true, Option, None, Some, ⊤}
 use Rattle.std.specs.Io.KnownBytes.{IsAtEnd}
 use Rattle.script_lines.specs.Ahead.{Ahead, Takes, LineReading, IsDrawn}
 use Rattle.script_lines.specs.Input.{FailsOrFull}
@@ -10,7 +10,6 @@ use Rattle.desk_script.specs.Asks.{Ask, Obey, Take, Refuse, asks, asked_by, Plac
 use Rattle.desk_script.specs.declared.command.Command.{Command}
 use Rattle.desk_script.specs.declared.request.Request.{Request}
 use Rattle.desk_script.specs.declared.request.Request.TheVariants as request
-use Rattle.std.specs.Prelude.{⊤}
 use Rattle.desk_script.specs.declared.command.Command.TheVariants as command
 use Rattle.desk_script.specs.declared.fault.ScriptFault.TheVariants.{BadCommand}
 

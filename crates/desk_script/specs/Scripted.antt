@@ -1,21 +1,15 @@
 -- A document as a script that makes it anew.
-use Rattle.std.specs.Prelude.{ℕ, List, ◌++◌, flat_map, codes, decimal}
+use Rattle.std.specs.Prelude.{ℕ, List, ◌++◌, flat_map, codes, decimal, [], Option, None, Some}
 use Rattle.std.specs.Fmt.{signed_decimal}
 use Rattle.bookmarks.specs.declared.view.View.{View}
 use Rattle.bookmarks.specs.declared.view.View.TheVariants.{Window, Counts, Rle, Macrocell}
 use Rattle.schedule.specs.declared.acts.Acts.{Acts}
 use Rattle.schedule.specs.declared.acts.Acts.TheVariants.{Once, Every}
 use Rattle.schedule.specs.Plan.{Plan}
-use Rattle.std.specs.Prelude.{ℕ, List, [], ◌++◌, Option, None, Some, flat_map, codes}
-use Rattle.std.specs.Prelude.{decimal}
-use Rattle.std.specs.Fmt.{signed_decimal}
 use Rattle.worlds.specs.declared.cell.CellSet.{CellSet}
 use Rattle.multistate_macrocell.specs.PatternText.{macrocell_text}
 use Rattle.rule_tree.specs.Rule.{name_of}
-use Rattle.schedule.specs.declared.acts.Acts.{Acts}
-use Rattle.schedule.specs.Plan.{Plan}
-use Rattle.schedule.specs.Asked.{Asked, AddBookmark, AddBranch, Insert}
-use Rattle.schedule.specs.Asked.{RemoveBookmark, RemoveBranch, RemoveIntervention}
+use Rattle.schedule.specs.Asked.{Asked, AddBookmark, AddBranch, Insert, RemoveBookmark, RemoveBranch, RemoveIntervention}
 use Rattle.document_replay.specs.Replay.{row_edits}
 
 -- when an intervention acts: once, or at a distance from a first generation to a last one

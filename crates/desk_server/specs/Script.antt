@@ -4,8 +4,7 @@ use Rattle.text_lines.specs.Lines.{End, Ended, lines_until}
 use Rattle.schedule.specs.Plan.{Plan}
 use Rattle.desk_script.specs.Asks.{Ask, asks, Between}
 use Rattle.desk_server.specs.Shortage.{Shortage, NoShortage}
-use Rattle.desk_server.specs.Answer.{After, Session, opening_session}
-use Rattle.desk_server.specs.Answer.{answer, session_after}
+use Rattle.desk_server.specs.Answer.{After, Session, opening_session, answer, session_after}
 
 -- what is short for the next one asked, and for those after it; with none left nothing is
 abbrev pub first_shortage : List Shortage → Shortage

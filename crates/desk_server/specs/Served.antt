@@ -9,8 +9,7 @@ use Rattle.desk_script.specs.declared.format.Format.{Format}
 use Rattle.desk_script.specs.declared.format.Format.TheVariants as format
 use Rattle.desk_script.specs.declared.request.Request.{Request}
 use Rattle.desk_server.specs.Shortage.{Shortage, IsCausedOver}
-use Rattle.desk_server.specs.Answer.{After, Session, answer}
-use Rattle.desk_server.specs.Answer.{taken, unless_memory, rule_text_after}
+use Rattle.desk_server.specs.Answer.{After, Session, answer, taken, unless_memory, rule_text_after}
 use Rattle.desk_server.specs.Told.{reply_text, ends}
 use Rattle.desk_server.specs.declared.reply.Reply.{Reply}
 
