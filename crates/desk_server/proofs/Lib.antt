@@ -1,13 +1,7 @@
+pub mod Shared
 pub mod Jobs
 pub mod Replies
 pub mod Rounds
 pub mod Noted
 pub mod Known
-pub mod Plain
-pub mod RuleStates
-pub mod OneLine
 pub mod Lines
-pub mod Remade
-pub mod Written
-pub mod RuleTexts
-pub mod EachSession

@@ -24,6 +24,7 @@ use Rattle.desk_script.specs.declared.request.Request.TheVariants as request
 use Rattle.desk_server.specs.Faults.{Fault, of_edit, of_script}
 use Rattle.desk_server.specs.Shortage.{NoShortage, Memory, Unsettled, Pending, Still}
 use Rattle.desk_server.specs.Answer.{After, Session, answer, refused, no_memory, only, unless_fault, settled, polled, rule_text_after}
+use Rattle.desk_server.proofs.Shared.RuleTexts.{rule-same}
 use Rattle.desk_server.specs.Answer.{shown as shown_by}
 use Rattle.desk_server.specs.Reply.{pending_text, refused_text}
 use Rattle.revision_jobs.specs.Posted.{PostView}
@@ -133,10 +134,6 @@ pub kept-taken : (format : Format) (text : Text) (old new : BookState) (rule kep
     → is_taken ≡ not (new.plan.revision == old.plan.revision) → (text ≡ None → new.plan ≡ old.plan)
     → kept ≡ kept_text format is_taken text rule → KeepsTaken format text (session old rule) new kept
 kept-taken format text old new rule kept is_taken is none keeps = grind (arith, kept-rule, nat_tests)
-
--- the text of the rule stays where the document does
-pub rule-same : (s : Session) (ask : Ask) → rule_text_after s ask s.plan ≡ s.rule_text
-rule-same s ask = grind (arith, cond-true, nat_tests)
 
 pub keeps_same : (asked : Request) (d : BookState) (rule : Option (List ℕ))
     → KeepsText asked (session d rule) d rule

@@ -3,8 +3,6 @@ pub mod Reply
 pub mod Shortage
 pub mod Answer
 pub mod Script
-pub mod Plain
-pub mod OneLine
 pub mod Jobs
 pub mod Listed
 pub mod Told
@@ -12,4 +10,3 @@ pub mod Served
 pub mod Run
 pub mod Watch
 pub mod Ending
-pub mod Anew

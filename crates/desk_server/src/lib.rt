@@ -18,7 +18,6 @@
 #![tactic(auto)]
 
 mod bell;
-mod laws;
 mod listing;
 mod reply;
 mod serve;
@@ -27,9 +26,5 @@ mod watch;
 
 pub use bell::Bell;
 pub use desk_core::{Entries, InlinePost, Onlooker, Post};
-pub use laws::{
-    documents_are_sound, kept_texts_are_rules, one_line_without_branch, plain_without_shortages,
-    scripts_make_documents_anew, whatever_is_scripted_is_made_anew,
-};
 pub use script_lines::{CountedReader, CountedWriter};
 pub use server::{RunFault, run, run_seen};

@@ -60,9 +60,9 @@ use Rattle.desk_server.specs.Shortage.{NoShortage}
 use Rattle.desk_server.specs.Answer.{Session, accepted, answer, edited, id_word}
 use Rattle.desk_server.specs.Answer.{opening_session, session_after, started, unless_fault}
 use Rattle.desk_server.specs.Script.{afters}
-use Rattle.desk_server.specs.Anew.{CanBeWritten, HasText, IsAccepted, MakesAnew, ScriptsMakeAnew}
-use Rattle.desk_server.specs.Anew.{last_plan}
-use Rattle.desk_server.proofs.Written.{rows-written, text-named}
+use Rattle.reply_laws.specs.Anew.{CanBeWritten, HasText, IsAccepted, MakesAnew, ScriptsMakeAnew}
+use Rattle.reply_laws.specs.Anew.{last_plan}
+use Rattle.reply_laws.proofs.Written.{rows-written, text-named}
 
 -- an edit was asked
 record IsEdit (asked : Asked) (ask : Ask) : Type 0 where

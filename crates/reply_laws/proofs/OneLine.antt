@@ -33,8 +33,8 @@ use Rattle.desk_server.specs.Shortage.{Shortage}
 use Rattle.desk_server.specs.Answer.{Session, opening_session, session_after}
 use Rattle.desk_server.specs.Answer.{After, accepted, answer, edited, id_word, started, taken, unless_fault, unless_memory}
 use Rattle.desk_server.specs.Script.{afters, documents_of, documents_with, first_shortage, later_shortages}
-use Rattle.desk_server.specs.OneLine.{AddsNoBranch, HasOneLine}
-use Rattle.desk_server.proofs.RuleStates.{rule_of-few}
+use Rattle.reply_laws.specs.OneLine.{AddsNoBranch, HasOneLine}
+use Rattle.reply_laws.proofs.RuleStates.{rule_of-few}
 
 -- something that holds of documents stays, whatever of these edits is made
 pub record Stays (K : Plan → Type 0) (Q : Asked → Type 0) : Type 0 where

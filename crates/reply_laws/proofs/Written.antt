@@ -40,7 +40,7 @@ use Rattle.document_replay.specs.Replay.{add_all, add_bookmark, add_branch, add_
 use Rattle.document_replay.specs.Replay.{branch_edits, ids_between, intervention_edits, row_edits}
 use Rattle.document_replay.specs.Replay.{skip_bookmark, skip_branch, skip_intervention}
 use Rattle.desk_script.specs.ReadsBack.{AreWritten, IsCount, IsWritten, IsWrittenCell, IsWrittenView, IsCounted}
-use Rattle.desk_server.specs.Anew.{CanBeWritten, HasText}
+use Rattle.reply_laws.specs.Anew.{CanBeWritten, HasText}
 
 -- ids between others
 range-counts : (a n : ℕ) → (0 < n → a + n < 2 ^ 64) → AllByRecursion IsCount (range_with_len a n)

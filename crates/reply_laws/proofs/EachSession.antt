@@ -14,11 +14,11 @@ use Rattle.desk_script.specs.Asks.{Between, asks}
 use Rattle.desk_script.specs.ReadsBack.{IsCounted}
 use Rattle.desk_script.proofs.Shared.Said.{Fits, LineFits, SetsSome, asks-fit}
 use Rattle.desk_server.specs.Answer.{Session, opening_session}
-use Rattle.desk_server.specs.Anew.{HasText, IsMadeAnew, WhateverIsScriptedIsMadeAnew, sessions}
-use Rattle.desk_server.proofs.OneLine.{KeepsLimits, Stays, answer-keeps, each-line}
-use Rattle.desk_server.proofs.OneLine.{limits-stay, opening-keeps}
-use Rattle.desk_server.proofs.Remade.{scripts_anew}
-use Rattle.desk_server.proofs.RuleTexts.{kept_texts, sessions-keep}
+use Rattle.reply_laws.specs.Anew.{HasText, IsMadeAnew, WhateverIsScriptedIsMadeAnew, sessions}
+use Rattle.reply_laws.proofs.OneLine.{KeepsLimits, Stays, answer-keeps, each-line}
+use Rattle.reply_laws.proofs.OneLine.{limits-stay, opening-keeps}
+use Rattle.reply_laws.proofs.Remade.{scripts_anew}
+use Rattle.reply_laws.proofs.RuleTexts.{kept_texts, sessions-keep}
 
 -- an intervention that can be written
 abbrev CanStand : Intervention → Type 0

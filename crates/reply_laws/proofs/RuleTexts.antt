@@ -35,11 +35,11 @@ use Rattle.std.specs.Prelude.{Result}
 use Rattle.std.proofs.lemmas.Bool.Decides.{nat_tests}
 use Rattle.desk_server.specs.Script.{first_shortage}
 use Rattle.desk_server.specs.Script.{later_shortages}
-use Rattle.desk_server.specs.Anew.{HasText, KeptTextsAreRules, sessions}
-use Rattle.desk_server.proofs.OneLine.{each-line, made-keeps}
-use Rattle.desk_server.proofs.OneLine.{unless_fault-keeps, unless_memory-keeps}
-use Rattle.desk_server.proofs.Remade.{AreTextLines}
-use Rattle.desk_server.proofs.Replies.{rule-same}
+use Rattle.reply_laws.specs.Anew.{HasText, KeptTextsAreRules, sessions}
+use Rattle.reply_laws.proofs.OneLine.{each-line, made-keeps}
+use Rattle.reply_laws.proofs.OneLine.{unless_fault-keeps, unless_memory-keeps}
+use Rattle.reply_laws.proofs.Remade.{AreTextLines}
+use Rattle.desk_server.proofs.Shared.RuleTexts.{rule-same}
 
 -- a text that is made of lines of which none ends it
 record IsText (text : List ℕ) : Type 0 where

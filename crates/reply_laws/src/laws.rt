@@ -1,8 +1,8 @@
 //! Laws of the definitions, each the contract of a function that does nothing.
-ghost use Rattle.desk_server.specs.Anew.{KeptTextsAreRules, ScriptsMakeAnew};
-ghost use Rattle.desk_server.specs.Anew.{WhateverIsScriptedIsMadeAnew};
-ghost use Rattle.desk_server.specs.OneLine.{DocumentsAreSound, OneLineWithoutBranch};
-ghost use Rattle.desk_server.specs.Plain.{PlainWithoutShortages};
+ghost use Rattle.reply_laws.specs.Anew.{KeptTextsAreRules, ScriptsMakeAnew};
+ghost use Rattle.reply_laws.specs.Anew.{WhateverIsScriptedIsMadeAnew};
+ghost use Rattle.reply_laws.specs.OneLine.{DocumentsAreSound, OneLineWithoutBranch};
+ghost use Rattle.reply_laws.specs.Plain.{PlainWithoutShortages};
 
 /// Where no reply shows a want, the replies are those where none is met.
 #[tactic(auto, using(crate::proofs::Plain::afters_plain))]

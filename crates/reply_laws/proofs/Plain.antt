@@ -16,7 +16,7 @@ use Rattle.desk_server.specs.Listed.{bookmark_line, branch_line, intervention_li
 use Rattle.desk_server.specs.Shortage.{Shortage, NoShortage, Unsettled, Known, IsCaused, IsCausedOver, AllCausedOver}
 use Rattle.desk_server.specs.Answer.{After, Session, answer, only, unless_memory, edited, settled, polled, listed, shown, scripted, obeyed, session_after}
 use Rattle.desk_server.specs.Script.{first_shortage, later_shortages, afters}
-use Rattle.desk_server.specs.Plain.{ShowsShortage, NoneShows}
+use Rattle.reply_laws.specs.Plain.{ShowsShortage, NoneShows}
 
 -- an answer is the plain one, or its reply shows the shortage
 abbrev IsPlain : Bool → After → After → Type 0

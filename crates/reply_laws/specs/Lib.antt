@@ -1,0 +1,3 @@
+pub mod Plain
+pub mod OneLine
+pub mod Anew
