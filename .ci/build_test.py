@@ -1,4 +1,6 @@
-"""Tests of build.py: a working copy that it makes has what the toolchain wants of a repository."""
+"""Tests of build.py: what it gives the toolchain's gate is proved there, or is told to be wrong."""
+import contextlib
+import io
 import os
 import shutil
 import sys
@@ -13,8 +15,19 @@ import build
 LOWEST = "basics"
 
 
+def proved(folder):
+    """Whether a copy is proved, and what is told of that."""
+    progress = build.Progress({LOWEST: build.line_count(LOWEST)})
+    with contextlib.redirect_stderr(io.StringIO()) as told:
+        is_proved = build.prove(folder, progress)
+    return is_proved, told.getvalue(), progress.left
+
+
 class Copies(unittest.TestCase):
-    """The copies in which the crates are proved."""
+    """The copy in which the crates are proved."""
+
+    def setUp(self):
+        self.folder = self.enterContext(tempfile.TemporaryDirectory())
 
     def test_the_crates_of_the_program_are_found(self):
         crates = build.libraries()
@@ -24,13 +37,19 @@ class Copies(unittest.TestCase):
 
     @unittest.skipUnless(shutil.which("rt"), "the toolchain is not on the PATH")
     def test_a_crate_is_proved_in_a_copy(self):
-        crates = build.libraries()
-        runs = build.Runs()
-        with tempfile.TemporaryDirectory() as folder:
-            root = f"{folder}/copy"
-            build.copy_sources(crates, root)
-            self.assertTrue(runs.call(LOWEST, root, "lib"))
-            self.assertTrue(os.path.isfile(f"{root}/crates/{LOWEST}/out/rlib/stamp"))
+        build.copy_sources([LOWEST], f"{self.folder}/copy")
+        self.assertEqual(proved(f"{self.folder}/copy"), (True, "", {}))
+
+    @unittest.skipUnless(shutil.which("rt"), "the toolchain is not on the PATH")
+    def test_what_is_wrong_with_a_crate_is_told(self):
+        build.copy_sources([LOWEST], f"{self.folder}/copy")
+        with open(f"{self.folder}/copy/crates/{LOWEST}/src/lib.rt", "a", encoding="utf-8") as file:
+            file.write("\nfn wrong() -> u8 {\n    nowhere()\n}\n")
+        is_proved, told, left = proved(f"{self.folder}/copy")
+        self.assertFalse(is_proved)
+        self.assertIn("nowhere", told)
+        self.assertIn("is not proved", told)
+        self.assertIn(LOWEST, left)
 
 
 if __name__ == "__main__":
