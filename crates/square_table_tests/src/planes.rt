@@ -59,6 +59,7 @@ fn comes_back(rt: &impl Abort, alloc: Global, cells: &[CellSet], level: u8) {
     assert!(rt; back.equals(&plane), "another plane");
     let again = table.load(&back).expect(rt, "memory");
     assert!(rt; again.number() == square.number(), "another square");
+    let _ = back.bounds();
     let twice = table.pack(again).expect(rt, "memory");
     assert!(rt; twice.equals(&plane), "another plane the second time");
 }
