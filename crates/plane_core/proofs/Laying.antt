@@ -1,22 +1,22 @@
 -- Cells laid on squares.
-use Rattle.std.proofs.Common.{◌≡◌, ℕ, suc, ◌+◌, ◌-◌, ◌<◌, ◌≤◌, ◌^◌, false, cond, List, [], ◌∷◌, ◌++◌, length, get_or, slice_set, refl, sym, ap, ap₂, ◌∙◌, subst, arith, inl, inr, ℤ, pos, ◌+ℤ◌}
+use Rattle.std.proofs.Common.{◌≡◌, ℕ, zero, suc, ◌+◌, ◌-◌, ◌<◌, ◌≤◌, ◌^◌, false, cond, List, [], ◌∷◌, ◌++◌, length, get_or, take, slice_set, Bor, refl, sym, ap, ap₂, ◌∙◌, subst, subst₂, arith, inl, inr, ℤ, pos, ◌+ℤ◌}
 use Rattle.std.specs.Prelude.{All}
 use Rattle.std.proofs.lemmas.Bool.{cases_lt, cases_eq, cond-true, cond-false, eq-eqb, ne_eqb, false_from_ne_true}
-use Rattle.std.proofs.lemmas.Grind.{common_steps}
+use Rattle.std.proofs.lemmas.Grind.{common_steps, flat_map-append}
 use Rattle.std.proofs.lemmas.Int.{ints}
-use Rattle.std.proofs.lemmas.List.{nil_from_length, get_or-set_same, get_or-set_other, length-set}
+use Rattle.std.proofs.lemmas.List.{append_assoc, append-nil, take_more, nil_from_length, get_or-set_same, get_or-set_other, length-set}
 use Rattle.std.proofs.lemmas.List.Elements.{All-nil, All-cons, All-append, All-head, All-tail}
 use Rattle.worlds.specs.declared.cell.CellSet.{CellSet}
 use Rattle.worlds.specs.World.{World, cell, cell-put, same_place, same_world}
 use Rattle.worlds.specs.Fill.{same_is, is_same}
-use Rattle.worlds.specs.Lay.{lay, lay-push}
+use Rattle.worlds.specs.Lay.{lay, lay-append, lay-push}
 use Rattle.worlds.specs.Square.{Square, cell_in, IsIn}
 use Rattle.plane_core.specs.declared.row.SquareRow.{SquareRow}
 use Rattle.plane_core.specs.declared.part.Part.{Part}
 use Rattle.plane_core.specs.declared.lay.Parts.{Parts}
 use Rattle.plane_core.specs.Rows.{IsNumber, square_in, root_level, edge_of, world_of_rows}
 use Rattle.plane_core.specs.Part.{Covers, IsPart, IsQuadrant, IsRoot, Shows, east, south, quadrant_at}
-use Rattle.plane_core.specs.Laid.{square_of, AreQuadrants, Keeps, IsAdded, AreThoseIn, AreParted, AreLaidStates, IsCellOf, IsLaid, IsPut, quadrant_of, renumbered}
+use Rattle.plane_core.specs.Laid.{square_of, AreQuadrants, Keeps, IsAdded, AreThoseIn, AreParted, AreLaidStates, AreStatesOf, IsCellOf, IsLaid, IsPut, cells_of_runs, quadrant_of, renumbered}
 use Rattle.plane_core.proofs.Shared.Sound.{IsNumber-level}
 use Rattle.plane_core.proofs.Shared.Cells.{in_or_out, offsets}
 use Rattle.plane_core.proofs.Shared.Roots.{root_level-some, world-outside, root-cells, root-side}
@@ -62,16 +62,59 @@ module _ (p : Part) (c : CellSet) (q r n : ℕ) (some : 1 ≤ p.level) (is : IsC
   in_no_other : (r ≡ q → ⊥) → Covers (quadrant_of p r n) c.x c.y → ⊥
   in_no_other other here = other (sym (in_quadrant r p (quadrant_of p r n) some few stands c.x c.y here).1 ∙ sym at)
 
-pub parted-more : (p : Part) (cs : List CellSet) (c : CellSet) (old new : Parts) (q : ℕ) → 1 ≤ p.level → IsCellOf p c → q ≡ quadrant_at p c.x c.y → IsPut q c old new → AreParted p cs old → AreParted p (cs ++ c ∷ []) new
-parted-more p cs c old new q some is at put before r few =
+-- cells that all lie in the square
+those-run : (p : Part) (cs here run : List CellSet) → All (IsCellOf p) run → AreThoseIn p cs here → AreThoseIn p (cs ++ run) (here ++ run)
+those-run p cs here [] all those = subst₂ (AreThoseIn p) (sym (append-nil cs)) (sym (append-nil here)) those
+those-run p cs here (c ∷ run) all those =
+    subst₂ (AreThoseIn p) (append_assoc cs (c ∷ []) run) (append_assoc here (c ∷ []) run)
+    (those-run p (cs ++ c ∷ []) (here ++ c ∷ []) run (All-tail (IsCellOf p) c run all)
+    (those-more p cs here c (All-head (IsCellOf p) c run all) those))
+
+-- cells of which none does
+those-run_passed : (p : Part) (cs here run : List CellSet) → All (λ c. Covers p c.x c.y → ⊥) run → AreThoseIn p cs here → AreThoseIn p (cs ++ run) here
+those-run_passed p cs here [] none those = subst (λ (ds : List CellSet). AreThoseIn p ds here) (sym (append-nil cs)) those
+those-run_passed p cs here (c ∷ run) none those =
+    subst (λ (ds : List CellSet). AreThoseIn p ds here) (append_assoc cs (c ∷ []) run)
+    (those-run_passed p (cs ++ c ∷ []) here run (All-tail (λ c. Covers p c.x c.y → ⊥) c run none)
+    (those-passed p cs here c (All-head (λ c. Covers p c.x c.y → ⊥) c run none) those))
+
+pub parted-run : (p : Part) (cs run : List CellSet) (old new : Parts) (q : ℕ) → 1 ≤ p.level → All (IsCellOf p) run → All (λ c. q ≡ quadrant_at p c.x c.y) run → IsPut q run old new
+    → AreParted p cs old → AreParted p (cs ++ run) new
+parted-run p cs run old new q some all at put before r few =
     elim (cases_eq r q) [
       | inl same ↦
-          subst (AreThoseIn (quadrant_of p r 0) (cs ++ c ∷ [])) (sym (put r few ∙ cond-true _ _ _ (eq-eqb r q same)))
-          (those-more (quadrant_of p r 0) cs _ c (in_own p c q r 0 some is at few same) (before r few))
+          subst (AreThoseIn (quadrant_of p r 0) (cs ++ run)) (sym (put r few ∙ cond-true _ _ _ (eq-eqb r q same)))
+          (those-run (quadrant_of p r 0) cs _ run (λ i d below. in_own p (get_or run i d) q r 0 some (all i d below) (at i d below) few same) (before r few))
       | inr other ↦
-          subst (AreThoseIn (quadrant_of p r 0) (cs ++ c ∷ [])) (sym (put r few ∙ cond-false _ _ _ (ne_eqb r q other)))
-          (those-passed (quadrant_of p r 0) cs _ c (in_no_other p c q r 0 some is at few other) (before r few))
+          subst (AreThoseIn (quadrant_of p r 0) (cs ++ run)) (sym (put r few ∙ cond-false _ _ _ (ne_eqb r q other)))
+          (those-run_passed (quadrant_of p r 0) cs _ run (λ i d below. in_no_other p (get_or run i d) q r 0 some (all i d below) (at i d below) few other) (before r few))
     ]
+
+-- runs, one more of which
+pub runs-more : (runs : List (Bor (List CellSet))) (i : ℕ) (d : Bor (List CellSet)) → i < length runs → cells_of_runs (take (i + 1) runs) ≡ cells_of_runs (take i runs) ++ (get_or runs i d).now
+runs-more runs i d below = rw (take_more runs i d below, flat_map-append, append-nil) refl
+
+pub all-left : {X : Type 0} (P : X → Type 0) (a b : List X) → All P (a ++ b) → All P a
+all-left P [] b all = All-nil P
+all-left P (x ∷ a) b all = All-cons P x a (All-head P x (a ++ b) all) (all-left P a b (All-tail P x (a ++ b) all))
+
+pub all-right : {X : Type 0} (P : X → Type 0) (a b : List X) → All P (a ++ b) → All P b
+all-right P [] b all = all
+all-right P (x ∷ a) b all = all-right P a b (All-tail P x (a ++ b) all)
+
+-- what holds of all cells of runs holds of those of each
+pub all-run : (P : CellSet → Type 0) (runs : List (Bor (List CellSet))) (i : ℕ) (d : Bor (List CellSet)) → i < length runs → All P (cells_of_runs runs) → All P (get_or runs i d).now
+all-run P [] i d below all = let no : ⊥ = omega arith in absurd no
+all-run P (r ∷ rs) zero d below all = all-left P r.now (cells_of_runs rs) all
+all-run P (r ∷ rs) (suc i) d below all = all-run P rs i d (omega arith) (all-right P r.now (cells_of_runs rs) all)
+
+-- cells are laid on a square of level 1, and then others
+pub laid-then : (p : Part) (cs ds : List CellSet) (old mid new : List ℕ) → AreLaidStates p cs old mid → AreLaidStates p ds mid new → AreLaidStates p (cs ++ ds) old new
+laid-then p cs ds old mid new first second = record {
+  count = second.count ∙ first.count;
+  small = second.small;
+  each = λ w states. subst (λ (v : World). AreStatesOf v p new) (sym (lay-append cs ds w)) (second.each (lay cs w) (first.each w states));
+}
 
 -- one more cell is set on a square of level 1
 pub laid-more : (p : Part) (cs : List CellSet) (c : CellSet) (old new : List ℕ) (q : ℕ) → p.level ≡ 1 → IsCellOf p c → q ≡ quadrant_at p c.x c.y → q < length new

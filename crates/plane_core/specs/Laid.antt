@@ -1,5 +1,7 @@
 -- Rows that come behind others, and cells that are laid on the squares of rows.
-use Rattle.std.specs.Prelude.{◌≡◌, ℕ, zero, suc, ◌-◌, ◌<◌, ◌≤◌, ◌^◌, ◌==◌, cond, List, [], ◌∷◌, ◌++◌, length, get_or, All, ℤ, pos, ◌+ℤ◌}
+use Rattle.std.specs.Prelude.{◌≡◌, ℕ, zero, suc, ◌-◌, ◌<◌, ◌≤◌, ◌^◌, ◌==◌, cond, List, ◌++◌, length, get_or, All, ℤ, pos, ◌+ℤ◌}
+use Rattle.std.specs.List.{flat_map}
+use Rattle.std.specs.Borrow.{Bor}
 use Rattle.worlds.specs.declared.cell.CellSet.{CellSet}
 use Rattle.worlds.specs.World.{World, cell}
 use Rattle.worlds.specs.Lay.{lay}
@@ -74,23 +76,27 @@ pub record AreThoseIn (p : Part) (cells here : List CellSet) : Type 0 where
   pub inside : All (IsCellOf p) here
   pub same : (w : World) (x y : ℤ) → Covers p x y → cell (lay here w) x y ≡ cell (lay cells w) x y
 
--- the list of a quadrant
+-- the cells of runs, one run after another
+abbrev pub cells_of_runs : List (Bor (List CellSet)) → List CellSet
+cells_of_runs = flat_map (λ run. run.now)
+
+-- the cells on the list of a quadrant
 abbrev pub list_of : Parts → ℕ → List CellSet
-list_of parts zero = parts.nw.items
-list_of parts (suc zero) = parts.ne.items
-list_of parts (suc (suc zero)) = parts.sw.items
-list_of parts (suc (suc (suc q))) = parts.se.items
+list_of parts zero = cells_of_runs parts.nw.items
+list_of parts (suc zero) = cells_of_runs parts.ne.items
+list_of parts (suc (suc zero)) = cells_of_runs parts.sw.items
+list_of parts (suc (suc (suc q))) = cells_of_runs parts.se.items
 
 -- the cells by the quadrants of the square
 abbrev pub AreParted : Part → List CellSet → Parts → Type 0
 AreParted p cells parts =
     (q : ℕ) → q < 4 → AreThoseIn (quadrant_of p q 0) cells (list_of parts q)
 
--- a cell is put behind the list of a quadrant
-abbrev pub IsPut : ℕ → CellSet → Parts → Parts → Type 0
-IsPut q c old new =
+-- cells are put behind those on the list of a quadrant
+abbrev pub IsPut : ℕ → List CellSet → Parts → Parts → Type 0
+IsPut q run old new =
     (r : ℕ) → r < 4
-    → list_of new r ≡ cond (r == q) (list_of old r ++ c ∷ []) (list_of old r)
+    → list_of new r ≡ cond (r == q) (list_of old r ++ run) (list_of old r)
 
 -- n names the square that p becomes when the cells are laid on it
 pub record IsLaid (old new : List SquareRow) (p : Part) (n : ℕ) (cells : List CellSet)

@@ -1,4 +1,5 @@
-use Rattle.std.proofs.Common.{◌≡◌, List, ap, ◌∙◌, subst}
+use Rattle.std.proofs.Common.{List, ap, ◌∙◌, subst}
+use Rattle.std.proofs.lemmas.List.{append-nil}
 use Rattle.worlds.specs.Lay.{lay}
 use Rattle.worlds.specs.declared.cell.CellSet.{CellSet}
 use Rattle.plane_core.specs.declared.row.SquareRow.{SquareRow}
@@ -14,7 +15,6 @@ returns-clause-world c =
     let cells = c.args.cells.now in
     let root = c.root-root.result in
     let n = c.in_ok-lay_in.field-0 in
-    let copied : c.in_ok-to_vec.field-0.items ≡ cells = c.in_ok-to_vec.ensures.items_if_clones_equal (λ x y h. h) in
     let is : IsRoot rows root = subst (λ (rs : List SquareRow). IsRoot rs root) c.deref.ensures.value c.root-root.ensures in
-    let laid : IsLaid rows new root n cells = subst (λ (cs : List CellSet). IsLaid rows new root n cs) copied c.in_ok-lay_in.ensures in
+    let laid : IsLaid rows new root n cells = subst (λ (cs : List CellSet). IsLaid rows new root n cs) (append-nil cells) c.in_ok-lay_in.ensures in
     laid-world rows new root n cells is (c.in_ok-raise_around.ensures.holds root is) laid ∙ ap (lay cells) c.in_ok-raise_around.ensures.world
