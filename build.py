@@ -2,187 +2,317 @@
 """Proves and builds the program and the crates below it where sources have changed, and tells on
 standard error how far it is.
 
-The toolchain's gate, `rt ci`, proves crates side by side, each from nothing, but for those that a run
-on this machine proved of the same text. Here it gets a copy of the program's crates without their
-tests and without the edits that must fail, and the program is taken from there.
+A crate is proved by the toolchain's `rattle` as soon as the crates below it are, from nothing and over
+their statements alone, which is all that it may cite. Crates that don't stand on one another are proved
+side by side, those with the longest way up to the program first, and where there are fewer of them than
+processors, several processes share the proofs of one. What was proved of the same text is kept beside
+the program, in its folder `out`.
 """
+import asyncio
 import contextlib
+import dataclasses
+import functools
+import hashlib
 import os
 import re
 import shutil
 import signal
-import subprocess
 import sys
-import tempfile
 import time
 
 ROOT = os.path.dirname(os.path.realpath(__file__))
 PROGRAM = "desk"
-BUILT = f"{ROOT}/crates/{PROGRAM}/out/{PROGRAM}"
+OUT = f"{ROOT}/crates/{PROGRAM}/out"
+BUILT = f"{OUT}/{PROGRAM}"
+# What is proved of libraries: a built one, and the sum of what it was proved of.
+KEPT = f"{OUT}/proved"
+TARGET = "x86_64-unknown-linux-gnu"
 # Lines that one processor proves in a second: the first guess of the time, and for how many lines it
 # counts beside what is measured.
 LINES_A_SECOND = 10
 GUESSED_LINES = 4000
-# What the gate says of a crate that is done, of one that isn't proved, and before what it found in one.
-PROVED = re.compile(r"rt: (\w+) (?:proved|is kept: .*)\n")
-FAILED = re.compile(r"rt: \w+ NOT PROVED.*\n")
-FOUND = re.compile(r"== .*\n")
+# More processes than this gain nothing at one crate.
+MOST_JOBS = 4
+# More bytes of memory than a process was seen to take.
+MEMORY = 3_000_000_000
 
 
-def libraries():
-    """The repository's libraries below each crate, of the program and the crates that it needs, lowest first."""
+@dataclasses.dataclass(eq=False)
+class Crate:
+    """A crate, the repository's libraries that it uses, and those of the toolchain."""
+
+    name: str
+    uses: list["Crate"]
+    kit: list[str]
+    # How many lines are proved one after another from it up to the program.
+    urgency: int = 0
+
+    @property
+    def folder(self):
+        return f"{ROOT}/crates/{self.name}"
+
+    @property
+    def library(self):
+        """Where it is built, if it is a library."""
+        return f"{KEPT}/{self.name}.rlib"
+
+    @functools.cached_property
+    def below(self):
+        """The repository's libraries below it."""
+        return {it for used in self.uses for it in (used, *used.below)}
+
+    def sources(self):
+        """The folders and files that its proof reads."""
+        for folder, folders, files in os.walk(self.folder):
+            folders[:] = sorted(it for it in folders if it not in ("out", "must-fail"))
+            yield folder
+            yield from (f"{folder}/{it}" for it in sorted(files) if it.endswith((".rt", ".antt")))
+
+    @functools.cached_property
+    def line_count(self):
+        """How many lines of code, definitions and proofs it has."""
+        return sum(read(it).count(b"\n") for it in self.sources() if os.path.isfile(it))
+
+    @functools.cached_property
+    def sum(self):
+        """What tells whether a proof of it is still one: its text, those below it, and who proves."""
+        return self.sum_now()
+
+    def sum_now(self):
+        """The same of the files as they are now."""
+        rattle = os.stat(f"{toolchain()}/bin/rattle")
+        files = [(os.path.relpath(it, ROOT), read(it)) for it in self.sources() if os.path.isfile(it)]
+        parts = (self.kit, [it.sum for it in self.uses], files, rattle.st_size, rattle.st_mtime_ns)
+        return hashlib.sha256(repr(parts).encode()).hexdigest()
+
+    def is_kept(self):
+        """Whether this text was proved before."""
+        with contextlib.suppress(FileNotFoundError):
+            return read(f"{self.library}.sum").decode() == self.sum and os.path.isdir(self.library)
+        return False
+
+
+def read(path):
+    with open(path, "rb") as file:
+        return file.read()
+
+
+def crates():
+    """The program and the repository's libraries that it needs, lowest first."""
     with open(f"{ROOT}/crates.txt", encoding="utf-8") as file:
         rows = [line.split("#")[0].partition(":") for line in file]
-    named = {name.split()[0]: words.split() for name, _, words in rows if name.strip()}
-    needed = {}
+    named = {name.strip(): words.split() for name, _, words in rows if name.strip()}
+    found = {}
 
     def need(name):
-        below = [it for it in named[name] if it in named]
-        for it in below:
-            need(it)
-        needed.setdefault(name, below)
+        if name not in found:
+            uses = [need(it) for it in named[name] if it in named]
+            found[name] = Crate(name, uses, ["std", *(it for it in named[name] if it not in named)])
+        return found[name]
 
     need(PROGRAM)
-    return needed
+    for crate in reversed(found.values()):
+        above = [it.urgency for it in found.values() if crate in it.uses]
+        crate.urgency = crate.line_count + max(above, default=0)
+    return list(found.values())
 
 
-def sources(name):
-    """The folders and files that a crate's proof reads."""
-    for folder, folders, files in os.walk(f"{ROOT}/crates/{name}"):
-        folders[:] = [it for it in folders if it not in ("out", "must-fail")]
-        yield folder
-        yield from (f"{folder}/{it}" for it in files if it.endswith((".rt", ".antt")))
-
-
-def is_fresh(crates):
+def is_fresh(needed):
     """Whether the program is newer than all that it is built of."""
     if not os.path.isfile(BUILT):
         return False
     # A crate's own folder changes with its `out`.
-    parts = [it for name in crates for it in sources(name) if it != f"{ROOT}/crates/{name}"]
+    parts = [path for it in needed for path in it.sources() if path != it.folder]
     return all(os.path.getmtime(it) < os.path.getmtime(BUILT) for it in [*parts, f"{ROOT}/crates.txt"])
 
 
-def line_count(name):
-    """How many lines of code, definitions and proofs a crate has."""
-    count = 0
-    for part in filter(os.path.isfile, sources(name)):
-        with open(part, "rb") as file:
-            count += file.read().count(b"\n")
-    return count
+def toolchain():
+    """The folder of the toolchain, whose command `rt` is on the PATH."""
+    return os.path.dirname(os.path.dirname(os.path.realpath(shutil.which("rt"))))
 
 
 def processors():
     return len(os.sched_getaffinity(0))
 
 
+def free_memory():
+    """How many bytes of memory are free."""
+    with open("/proc/meminfo", encoding="ascii") as file:
+        return 1024 * int(re.search(r"MemAvailable:\s+(\d+)", file.read())[1])
+
+
 def tell(text):
     print(f"desk: {text}", file=sys.stderr, flush=True)
-
-
-def copy_sources(crates, folder):
-    """Copies what the proofs and the program's run read."""
-    os.makedirs(f"{folder}/crates", exist_ok=True)
-    shutil.copy2(f"{ROOT}/HANDLES", folder)
-    with open(f"{ROOT}/crates.txt", encoding="utf-8") as file:
-        rows = [line for line in file if line.partition(":")[0].strip() in crates]
-    # The toolchain wants a folder for each crate that is listed, and the tests have none here.
-    with open(f"{folder}/crates.txt", "w", encoding="utf-8") as file:
-        file.writelines(rows)
-    for name in crates:
-        leave = shutil.ignore_patterns("out", "must-fail")
-        shutil.copytree(f"{ROOT}/crates/{name}", f"{folder}/crates/{name}", ignore=leave)
-
-
-@contextlib.contextmanager
-def working_copy():
-    """A folder, which goes away behind this program: what is proved in it has so many files that it takes minutes."""
-    folder = tempfile.mkdtemp(prefix="desk-build-")
-    try:
-        yield folder
-    finally:
-        how = {"stdin": subprocess.DEVNULL, "stdout": subprocess.DEVNULL, "stderr": subprocess.DEVNULL}
-        subprocess.Popen(["rm", "-rf", folder], start_new_session=True, **how)
 
 
 class Progress:
     """What is proved of the lines that are to be proved, and how long the rest takes."""
 
     def __init__(self, lines):
-        self.lines, self.left, self.done, self.began = lines, dict(lines), 0, time.monotonic()
+        self.left, self.done, self.began = dict(lines), 0, time.monotonic()
 
     def minutes(self):
         guess = GUESSED_LINES / (LINES_A_SECOND * processors())
         speed = (GUESSED_LINES + self.done) / (guess + time.monotonic() - self.began)
         return max(1, round(sum(self.left.values()) / speed / 60))
 
-    def end(self, name, is_new):
-        """Counts a crate. One that was proved before took no time."""
-        lines = self.left.pop(name, 0)
-        self.done += lines if is_new else 0
+    def end(self, name):
+        """Counts a crate."""
+        self.done += self.left.pop(name)
 
 
-@contextlib.contextmanager
-def running(*words, **how):
-    """A command, which ends with this program."""
-    with subprocess.Popen(words, start_new_session=True, **how) as run:
-        try:
-            yield run
-        finally:
-            if run.poll() is None:
-                os.killpg(run.pid, signal.SIGTERM)
+class Refused(Exception):
+    """What the toolchain said of a crate that it doesn't prove."""
 
 
-def prove(folder, progress):
-    """Proves the crates of a copy, and builds and runs the program there. Answers whether that went well."""
-    found, is_well = [], True
-    how = {"stdin": subprocess.DEVNULL, "stdout": subprocess.PIPE, "stderr": subprocess.STDOUT}
-    with running("rt", "ci", cwd=folder, text=True, errors="replace", **how) as run:
-        for line in run.stdout:
-            found = [] if FOUND.fullmatch(line) else [*found, line]
-            proved = PROVED.fullmatch(line)
-            if proved:
-                progress.end(proved[1], "is kept" not in line)
-                if "is kept" not in line and progress.left:
-                    tell(f"{proved[1]} is proved; about {progress.minutes()} min to go")
-            elif FAILED.fullmatch(line):
-                is_well = False
-                sys.stderr.writelines(found)
-        if run.wait() == 0:
-            return True
-        if is_well:
-            sys.stderr.writelines(found)
+async def run(*words, folder=ROOT):
+    """Runs a command of the toolchain, which ends with this program."""
+    how = {"stdin": asyncio.subprocess.DEVNULL, "stdout": asyncio.subprocess.PIPE, "stderr": asyncio.subprocess.STDOUT}
+    process = await asyncio.create_subprocess_exec(*words, cwd=folder, start_new_session=True, **how)
+    try:
+        said, _ = await process.communicate()
+    finally:
+        if process.returncode is None:
+            os.killpg(process.pid, signal.SIGTERM)
+            await process.wait()
+    if process.returncode:
+        raise Refused(said.decode(errors="replace"))
+
+
+def words_for(crate, jobs):
+    """The words of the toolchain's command `build` that say what a crate is and stands on."""
+    kit = toolchain()
+    words = ["--crate-name", crate.name, f"src/{'main' if crate.name == PROGRAM else 'lib'}.rt"]
+    for name in crate.kit:
+        words += ["--extern", f"{name}={kit}/rlibs/{name}.rlib"]
+    for used in crate.uses:
+        words += ["--extern", f"{used.name}={used.library}"]
+    words += ["-L", f"dependency={kit}/rlibs", "-L", f"dependency={KEPT}"]
+    words += ["--antt-project", f"{kit}/rattle/logic/antt-project.json", "--logic-built", f"{kit}/logic_built"]
+    # It has no foreign code.
+    return [*words, "--links", f"{crate.name}=", "--jobs", str(jobs)]
+
+
+async def prove(crate, jobs, *words):
+    """Proves a crate, and builds of it what these words say."""
+    await run(f"{toolchain()}/bin/rattle", "build", *words_for(crate, jobs), *words, folder=crate.folder)
+    if crate.sum_now() != crate.sum:
+        raise Refused(f"{crate.name} changed while it was proved\n")
+
+
+async def prove_library(crate, jobs):
+    """Proves a library, and keeps its statements."""
+    os.makedirs(KEPT, exist_ok=True)
+    with contextlib.suppress(FileNotFoundError):
+        os.remove(f"{crate.library}.sum")
+    await prove(crate, jobs, "--statements", "-o", crate.library)
+    with open(f"{crate.library}.sum", "w", encoding="ascii") as file:
+        file.write(crate.sum)
+
+
+async def prove_program(crate, jobs):
+    """Proves the program, compiles what was proved, and links it."""
+    kit, made = toolchain(), f"{OUT}/{PROGRAM}.o"
+    os.makedirs(OUT, exist_ok=True)
+    await prove(crate, jobs, "--toolchain", f"{kit}/toolchain", "--backend", "llvm", "-o", made)
+    words = ["--target", TARGET, "--toolchain", f"{kit}/toolchain", "-o", f"{BUILT}.new", made]
+    await run(f"{kit}/bin/rattle-link", *words, f"{kit}/c/libos_c.a", f"{kit}/c/liblibc_c.a")
+    # A program that runs keeps its file.
+    os.replace(f"{BUILT}.new", BUILT)
+
+
+def urgency(crate):
+    return crate.urgency
+
+
+def lanes():
+    """How many processes may prove at a time."""
+    return max(1, min(processors(), free_memory() // MEMORY))
+
+
+def next_to_prove(waiting, running, room):
+    """The crates that can be proved now, and by how many processes each.
+
+    A crate with nothing beside it gets all processes, and any other an equal share of them, of at most two.
+    The most urgent of those under way gets two, even if there is one process too many then.
+    """
+    ready = sorted((it for it in waiting if it.below.isdisjoint(waiting | running.keys())), key=urgency, reverse=True)
+    idle = room - sum(running.values())
+    is_alone, most_urgent = not running and len(ready) == 1, max(map(urgency, running), default=0)
+    while ready and idle > 0:
+        crate = ready.pop(0)
+        share = max(1, idle // (len(ready) + 1))
+        jobs = min(share, MOST_JOBS if is_alone else 2)
+        if urgency(crate) >= most_urgent:
+            jobs, most_urgent = max(jobs, min(2, room)), urgency(crate)
+        yield crate, jobs
+        idle -= jobs
+
+
+async def prove_all(waiting, progress):
+    """Proves crates, each after those below it that are among them."""
+    running, tasks, room = {}, {}, lanes()
+    try:
+        while waiting or running:
+            for crate, jobs in [*next_to_prove(waiting, running, room)]:
+                how = prove_program if crate.name == PROGRAM else prove_library
+                tasks[asyncio.create_task(how(crate, jobs))] = crate
+                running[crate] = jobs
+                waiting.remove(crate)
+            ended, _ = await asyncio.wait(tasks, return_when=asyncio.FIRST_COMPLETED)
+            for task in ended:
+                await task
+                crate = tasks.pop(task)
+                del running[crate]
+                progress.end(crate)
+                if progress.left:
+                    tell(f"{crate.name} is proved; about {progress.minutes()} min to go")
+    finally:
+        for task in tasks:
+            task.cancel()
+        await asyncio.gather(*tasks, return_exceptions=True)
+
+
+async def until_told(work):
+    """Waits for work, which ends where this program is told to."""
+    asyncio.get_running_loop().add_signal_handler(signal.SIGTERM, asyncio.current_task().cancel)
+    await work
+
+
+def build(needed):
+    """Proves and builds the program. Answers whether that went well."""
+    began, kept = time.time(), set()
+    for crate in needed:
+        if kept.issuperset(crate.uses) and crate.is_kept():
+            kept.add(crate)
+    waiting = {*needed} - kept
+    progress = Progress({it: it.line_count for it in waiting})
+    tell(f"{len(waiting)} crates are to be proved, which takes about {progress.minutes()} min")
+    tell(f"for a first answer at once, without proofs: cd {ROOT}/crates/{PROGRAM} && rt try < SCRIPT")
+    try:
+        asyncio.run(until_told(prove_all(waiting, progress)))
+    except Refused as refused:
+        sys.stderr.write(str(refused))
         tell("the program is not proved, so it is not built")
         return False
-
-
-def build(crates):
-    """Proves and builds the program. Answers whether that went well."""
-    progress = Progress({name: line_count(name) for name in crates})
-    tell(f"{len(crates)} crates are to be proved, which takes about {progress.minutes()} min where nothing is kept")
-    tell(f"for a first answer at once, without proofs: cd {ROOT}/crates/{PROGRAM} && rt try < SCRIPT")
-    with working_copy() as folder:
-        copy_sources(crates, folder)
-        if not prove(folder, progress):
-            return False
-        os.makedirs(os.path.dirname(BUILT), exist_ok=True)
-        # A program that runs keeps its file.
-        shutil.copy(f"{folder}/crates/{PROGRAM}/out/{PROGRAM}", f"{BUILT}.new")
-        os.replace(f"{BUILT}.new", BUILT)
+    # It is no newer than what changed meanwhile.
+    os.utime(BUILT, (began, began))
     return True
 
 
 def main():
-    crates = libraries()
-    if is_fresh(crates):
+    needed = crates()
+    if is_fresh(needed):
         return 0
     if not shutil.which("rt"):
         tell("rt, the command of the toolchain, is not on the PATH, and without it nothing can be proved or built")
         return 127
     try:
-        return 0 if build(crates) else 1
+        return 0 if build(needed) else 1
     except KeyboardInterrupt:
         return 130
+    except asyncio.CancelledError:
+        return 143
 
 
 if __name__ == "__main__":

@@ -1,11 +1,13 @@
-"""Tests of build.py: what it gives the toolchain's gate is proved there, or is told to be wrong."""
+"""Tests of build.py: what is proved before what, what is kept, and what is told of what is wrong."""
+import asyncio
 import contextlib
-import io
 import os
 import shutil
 import sys
 import tempfile
+import time
 import unittest
+from unittest import mock
 
 ROOT = os.path.dirname(os.path.dirname(os.path.realpath(__file__)))
 sys.path.insert(0, ROOT)
@@ -15,41 +17,111 @@ import build
 LOWEST = "basics"
 
 
-def proved(folder):
-    """Whether a copy is proved, and what is told of that."""
-    progress = build.Progress({LOWEST: build.line_count(LOWEST)})
-    with contextlib.redirect_stderr(io.StringIO()) as told:
-        is_proved = build.prove(folder, progress)
-    return is_proved, told.getvalue(), progress.left
+def crate(name, *uses, lines=1):
+    """A crate of so many lines, below which are these."""
+    urgency = lines + sum(it.urgency for it in uses)
+    return build.Crate(name, [*uses], ["std"], urgency)
 
 
-class Copies(unittest.TestCase):
-    """The copy in which the crates are proved."""
+def has_ended(process):
+    """Whether a process has gone, or is to be waited for alone."""
+    try:
+        return b") Z " in build.read(f"/proc/{process}/stat")
+    except FileNotFoundError:
+        return True
+
+
+class Order(unittest.TestCase):
+    """What is proved next, and by how many processes."""
 
     def setUp(self):
-        self.folder = self.enterContext(tempfile.TemporaryDirectory())
+        self.low = crate("low", lines=10)
+        self.left, self.right = crate("left", self.low, lines=5), crate("right", self.low, lines=7)
+        self.top = crate("top", self.left, self.right, lines=9)
+        self.all = {self.low, self.left, self.right, self.top}
+
+    def next(self, done, running, room=4):
+        waiting = self.all - done - running.keys()
+        return [*build.next_to_prove(waiting, running, room)]
 
     def test_the_crates_of_the_program_are_found(self):
-        crates = build.libraries()
-        self.assertIn(LOWEST, crates)
-        self.assertEqual(list(crates)[-1], build.PROGRAM)
-        self.assertFalse([it for it in crates if it.endswith("_tests")])
+        needed = build.crates()
+        names = [it.name for it in needed]
+        self.assertIn(LOWEST, names)
+        self.assertEqual(names[-1], build.PROGRAM)
+        self.assertFalse([it for it in names if it.endswith("_tests")])
+        for at, it in enumerate(needed):
+            self.assertLessEqual(it.below, {*needed[:at]})
 
-    @unittest.skipUnless(shutil.which("rt"), "the toolchain is not on the PATH")
-    def test_a_crate_is_proved_in_a_copy(self):
-        build.copy_sources([LOWEST], f"{self.folder}/copy")
-        self.assertEqual(proved(f"{self.folder}/copy"), (True, "", {}))
+    def test_a_crate_alone_gets_all_processes(self):
+        self.assertEqual(self.next(set(), {}), [(self.low, 4)])
+        self.assertEqual(self.next({self.low, self.left, self.right}, {}), [(self.top, 4)])
 
-    @unittest.skipUnless(shutil.which("rt"), "the toolchain is not on the PATH")
+    def test_crates_side_by_side_share_them(self):
+        self.assertEqual(self.next({self.low}, {}), [(self.right, 2), (self.left, 2)])
+        self.assertEqual(self.next({self.low}, {}, room=2), [(self.right, 2)])
+
+    def test_the_most_urgent_gets_two(self):
+        self.assertEqual(self.next({self.low}, {self.left: 3}), [(self.right, 2)])
+        self.assertEqual(self.next({self.low}, {self.right: 3}), [(self.left, 1)])
+
+    def test_a_crate_waits_for_those_below_it_and_for_a_process(self):
+        self.assertEqual(self.next(set(), {self.low: 2}), [])
+        self.assertEqual(self.next({self.low}, {self.right: 4}), [])
+
+    def test_one_process_proves_where_there_is_room_for_one(self):
+        self.assertEqual(self.next(set(), {}, room=1), [(self.low, 1)])
+
+
+@unittest.skipUnless(shutil.which("rt"), "the toolchain is not on the PATH")
+class Proofs(unittest.TestCase):
+    """A crate that is proved in a copy."""
+
+    def setUp(self):
+        self.root = self.enterContext(tempfile.TemporaryDirectory())
+        shutil.copytree(f"{ROOT}/crates/{LOWEST}", f"{self.root}/crates/{LOWEST}", ignore=shutil.ignore_patterns("out"))
+        self.enterContext(mock.patch.multiple(build, ROOT=self.root, KEPT=f"{self.root}/kept"))
+
+    def append(self, text):
+        with open(f"{self.root}/crates/{LOWEST}/src/lib.rt", "a", encoding="utf-8") as file:
+            file.write(text)
+
+    def test_what_is_proved_is_kept_until_its_text_changes(self):
+        proved = crate(LOWEST)
+        self.assertFalse(proved.is_kept())
+        asyncio.run(build.prove_library(proved, 2))
+        self.assertTrue(proved.is_kept())
+        self.assertTrue(os.path.isdir(proved.library))
+        self.append("\n// More.\n")
+        self.assertFalse(crate(LOWEST).is_kept())
+
     def test_what_is_wrong_with_a_crate_is_told(self):
-        build.copy_sources([LOWEST], f"{self.folder}/copy")
-        with open(f"{self.folder}/copy/crates/{LOWEST}/src/lib.rt", "a", encoding="utf-8") as file:
-            file.write("\nfn wrong() -> u8 {\n    nowhere()\n}\n")
-        is_proved, told, left = proved(f"{self.folder}/copy")
-        self.assertFalse(is_proved)
-        self.assertIn("nowhere", told)
-        self.assertIn("is not proved", told)
-        self.assertIn(LOWEST, left)
+        self.append("\nfn wrong() -> u8 {\n    nowhere()\n}\n")
+        with self.assertRaises(build.Refused) as refused:
+            asyncio.run(build.prove_library(crate(LOWEST), 1))
+        self.assertIn("nowhere", str(refused.exception))
+        self.assertFalse(crate(LOWEST).is_kept())
+
+
+class Commands(unittest.TestCase):
+    """The commands that are run."""
+
+    def test_what_a_command_says_is_told_where_it_fails(self):
+        with self.assertRaises(build.Refused) as refused:
+            asyncio.run(build.run("sh", "-c", "echo why; exit 3"))
+        self.assertEqual(str(refused.exception), "why\n")
+
+    def test_a_command_ends_with_who_waits_for_it(self):
+        with tempfile.NamedTemporaryFile() as file:
+            words = ["sh", "-c", f"sleep 600 & echo $! > {file.name}; wait"]
+            with contextlib.suppress(TimeoutError):
+                asyncio.run(asyncio.wait_for(build.run(*words), 1))
+            started = int(build.read(file.name))
+        for _ in range(50):
+            if has_ended(started):
+                return
+            time.sleep(0.1)
+        self.fail("it goes on")
 
 
 if __name__ == "__main__":
