@@ -9,7 +9,7 @@ use Rattle.rule_tree.specs.declared.rule.Rule.{Rule}
 use Rattle.rule_tree.specs.Rule.{AreEqual, next_of}
 use Rattle.bookmarks.specs.declared.view.View.{View}
 use Rattle.bookmarks.specs.Text.{text_of}
-use Rattle.revision_jobs.specs.Value.{Value, pattern, text}
+use Rattle.bookmarks.specs.Value.{Value, pattern, text}
 
 -- a rule, a pattern, the cells that are laid on it, and how many generations pass then
 pub record Stepping : Type 0 where

@@ -5,7 +5,7 @@ use Rattle.schedule.specs.declared.fault.EditFault.{EditFault}
 use Rattle.schedule.specs.Asked.{Asked, ReplaceRule}
 use Rattle.schedule.specs.Change.{Changed, change, changed}
 use Rattle.schedule.specs.Plan.{Plan}
-use Rattle.revision_jobs.specs.Value.{Value, pattern}
+use Rattle.bookmarks.specs.Value.{Value, pattern}
 use Rattle.desk_events.specs.declared.mark.Mark.{Mark}
 use Rattle.desk_events.specs.declared.need.Need.{Need}
 use Rattle.desk_events.specs.declared.need.Need.TheVariants.{Step, View}

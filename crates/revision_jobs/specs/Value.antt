@@ -9,16 +9,12 @@ use Rattle.worlds.specs.Range.{AllBelow, CanBeLaid}
 use Rattle.step_engine.specs.Evolved.{CanEvolve}
 use Rattle.rule_tree.specs.Rule.{next_of, states_of}
 use Rattle.bookmarks.specs.Text.{text_of}
+pub use Rattle.bookmarks.specs.Value.{Value, pattern, text}
 use Rattle.bookmarks.specs.Within.{IsWithin}
 use Rattle.revision_jobs.specs.declared.entry.Entry.{Entry}
 use Rattle.revision_jobs.specs.declared.entry.Entry.TheVariants as entry
 use Rattle.revision_jobs.specs.declared.entry.Step.{Step}
 use Rattle.revision_jobs.specs.declared.entry.Rendering.{Rendering}
-
--- a pattern, or the bytes of a text
-pub data Value : Type 0 where
-  pattern : World → Value
-  text : List ℕ → Value
 
 -- the pattern of a step on which its cells are laid
 abbrev pub start_of : Step → World

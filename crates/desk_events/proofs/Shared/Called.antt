@@ -6,7 +6,7 @@ use Rattle.std.proofs.Math.Path.{fun_ext}
 use Rattle.schedule.specs.declared.fault.EditFault.{EditFault}
 use Rattle.schedule.specs.Asked.{Asked}
 use Rattle.schedule.specs.Change.{changed, refusal, unless_refused}
-use Rattle.revision_jobs.specs.Value.{pattern}
+use Rattle.bookmarks.specs.Value.{pattern}
 use Rattle.desk_events.specs.declared.mark.Mark.{Mark}
 use Rattle.desk_events.specs.declared.need.Need.{Need}
 use Rattle.desk_events.specs.Configuration.{Configuration, HappenAll, Happening, Happens, IsReached, IsWithout, desk, finishes, opened_among, queued_after, takes}

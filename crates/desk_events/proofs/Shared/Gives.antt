@@ -13,7 +13,7 @@ use Rattle.schedule.specs.Plan.{Plan}
 use Rattle.schedule.specs.Scratch.{cells_at, arrival, after}
 use Rattle.schedule.specs.Sound.{IsSound}
 use Rattle.schedule.proofs.Shared.Lines.{arrival-fork}
-use Rattle.revision_jobs.specs.Value.{pattern, text}
+use Rattle.bookmarks.specs.Value.{pattern, text}
 use Rattle.desk_events.specs.Entry.{Entry, Stepping, Viewing, start_of, steps, value, views, world_after, world_seen}
 use Rattle.desk_events.specs.declared.mark.Mark.{Mark}
 use Rattle.desk_events.specs.declared.need.Need.{Need}

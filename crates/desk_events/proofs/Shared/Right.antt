@@ -21,7 +21,7 @@ use Rattle.schedule.specs.Plan.{Plan}
 use Rattle.schedule.specs.Scratch.{arrival}
 use Rattle.schedule.specs.Sound.{IsSound}
 use Rattle.schedule.proofs.Shared.Changed.{HasStates, sound_changed, some_changed}
-use Rattle.revision_jobs.specs.Value.{Value, pattern}
+use Rattle.bookmarks.specs.Value.{Value, pattern}
 use Rattle.desk_events.specs.declared.mark.Mark.{Mark}
 use Rattle.desk_events.specs.declared.need.Need.{Need}
 use Rattle.desk_events.specs.declared.need.Need.TheVariants.{Step, View}

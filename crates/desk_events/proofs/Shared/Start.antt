@@ -3,7 +3,7 @@ use Rattle.std.proofs.Common.{◌≡◌, sym, ap, Some}
 use Rattle.schedule.specs.Plan.{Plan}
 use Rattle.schedule.specs.Scratch.{arrival}
 use Rattle.schedule.proofs.Shared.Lines.{arrival-start}
-use Rattle.revision_jobs.specs.Value.{pattern}
+use Rattle.bookmarks.specs.Value.{pattern}
 use Rattle.desk_events.specs.declared.need.Need.TheVariants.{Step}
 use Rattle.desk_events.specs.Wanted.{wanted}
 

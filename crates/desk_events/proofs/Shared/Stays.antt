@@ -4,7 +4,7 @@ use Rattle.std.specs.List.{AllByRecursion}
 use Rattle.rule_tree.specs.Rule.{states_of, states_of-still}
 use Rattle.schedule.specs.declared.document.Bookmark.{Bookmark}
 use Rattle.schedule.specs.Plan.{Plan}
-use Rattle.revision_jobs.specs.Value.{Value}
+use Rattle.bookmarks.specs.Value.{Value}
 use Rattle.desk_events.specs.declared.need.Need.TheVariants.{View}
 use Rattle.desk_events.specs.Configuration.{AnswersAfter, Configuration, HappenAll, Happening, Happens, HappensToDesk, IsWithout, desk, echoes, finishes, loses_answer, opened_among}
 use Rattle.desk_events.specs.Core.{Answer, Core, Row, shown, shown_for}

@@ -13,7 +13,7 @@ use Rattle.schedule.specs.Plan.{Plan}
 use Rattle.schedule.specs.Scratch.{cells_at, scratch}
 use Rattle.schedule.specs.Sound.{AreMarked, IsPlaced, IsSound}
 use Rattle.schedule.proofs.Shared.Alike.{arrival-within}
-use Rattle.revision_jobs.specs.Value.{pattern}
+use Rattle.bookmarks.specs.Value.{pattern}
 use Rattle.desk_events.specs.declared.mark.Mark.{Mark}
 use Rattle.desk_events.specs.declared.need.Need.{Need}
 use Rattle.desk_events.specs.declared.need.Need.TheVariants.{Step, View}
