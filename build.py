@@ -13,6 +13,7 @@ import contextlib
 import dataclasses
 import functools
 import hashlib
+import itertools
 import os
 import re
 import shutil
@@ -63,8 +64,9 @@ class Crate:
 
     def sources(self):
         """The folders and files that its proof reads."""
-        for folder, folders, files in os.walk(self.folder):
-            folders[:] = sorted(it for it in folders if it not in ("out", "must-fail"))
+        roots = [f"{self.folder}/{part}" for part in ("proofs", "specs", "src")]
+        for folder, folders, files in itertools.chain.from_iterable(map(os.walk, roots)):
+            folders.sort()
             yield folder
             yield from (f"{folder}/{it}" for it in sorted(files) if it.endswith((".rt", ".antt")))
 
@@ -121,8 +123,7 @@ def is_fresh(needed):
     """Whether the program is newer than all that it is built of."""
     if not os.path.isfile(BUILT):
         return False
-    # A crate's own folder changes with its `out`.
-    parts = [path for it in needed for path in it.sources() if path != it.folder]
+    parts = [path for it in needed for path in it.sources()]
     return all(os.path.getmtime(it) < os.path.getmtime(BUILT) for it in [*parts, f"{ROOT}/crates.txt"])
 
 
@@ -233,18 +234,17 @@ def lanes():
 def next_to_prove(waiting, running, room):
     """The crates that can be proved now, and by how many processes each.
 
-    A crate with nothing beside it gets all processes, and any other an equal share of them, of at most two.
-    The most urgent of those under way gets two, even if there is one process too many then.
+    Each gets an equal share of those that are idle, of at most two. The most urgent of all under way gets two
+    at least, even if there is one process too many then, and more where no other crate can be proved.
     """
     ready = sorted((it for it in waiting if it.below.isdisjoint(waiting | running.keys())), key=urgency, reverse=True)
-    idle = room - sum(running.values())
-    is_alone, most_urgent = not running and len(ready) == 1, max(map(urgency, running), default=0)
+    idle, is_only = room - sum(running.values()), len(ready) == 1
+    most_urgent = max(map(urgency, running), default=0)
     while ready and idle > 0:
-        crate = ready.pop(0)
-        share = max(1, idle // (len(ready) + 1))
-        jobs = min(share, MOST_JOBS if is_alone else 2)
+        share = idle // len(ready)
+        crate, jobs = ready.pop(0), min(max(1, share), 2)
         if urgency(crate) >= most_urgent:
-            jobs, most_urgent = max(jobs, min(2, room)), urgency(crate)
+            jobs, most_urgent = max(min(2, room), min(share, MOST_JOBS) if is_only else 0), urgency(crate)
         yield crate, jobs
         idle -= jobs
 

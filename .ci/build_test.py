@@ -65,6 +65,10 @@ class Order(unittest.TestCase):
         self.assertEqual(self.next({self.low}, {self.left: 3}), [(self.right, 2)])
         self.assertEqual(self.next({self.low}, {self.right: 3}), [(self.left, 1)])
 
+    def test_the_most_urgent_gets_what_no_other_can_use(self):
+        self.assertEqual(self.next({self.low}, {self.left: 1}), [(self.right, 3)])
+        self.assertEqual(self.next({self.low}, {self.right: 1}), [(self.left, 2)])
+
     def test_a_crate_waits_for_those_below_it_and_for_a_process(self):
         self.assertEqual(self.next(set(), {self.low: 2}), [])
         self.assertEqual(self.next({self.low}, {self.right: 4}), [])
