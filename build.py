@@ -11,6 +11,7 @@ the program, in its folder `out`.
 import asyncio
 import contextlib
 import dataclasses
+import fcntl
 import functools
 import hashlib
 import itertools
@@ -279,6 +280,19 @@ async def until_told(work):
     await work
 
 
+@contextlib.contextmanager
+def alone():
+    """Waits while another run of this program builds here."""
+    os.makedirs(OUT, exist_ok=True)
+    with open(f"{OUT}/build.lock", "w", encoding="ascii") as lock:
+        try:
+            fcntl.flock(lock, fcntl.LOCK_EX | fcntl.LOCK_NB)
+        except BlockingIOError:
+            tell("the program is being built already; waiting for that to end")
+            fcntl.flock(lock, fcntl.LOCK_EX)
+        yield
+
+
 def build(needed):
     """Proves and builds the program. Answers whether that went well."""
     began, kept = time.time(), set()
@@ -308,7 +322,8 @@ def main():
         tell("rt, the command of the toolchain, is not on the PATH, and without it nothing can be proved or built")
         return 127
     try:
-        return 0 if build(needed) else 1
+        with alone():
+            return 0 if is_fresh(needed) or build(needed) else 1
     except KeyboardInterrupt:
         return 130
     except asyncio.CancelledError:
