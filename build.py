@@ -26,8 +26,9 @@ ROOT = os.path.dirname(os.path.realpath(__file__))
 PROGRAM = "desk"
 OUT = f"{ROOT}/crates/{PROGRAM}/out"
 BUILT = f"{OUT}/{PROGRAM}"
-# What is proved of libraries: a built one, and the sum of what it was proved of.
-KEPT = f"{OUT}/proved"
+# What is proved of libraries: a built one, and the sum of what it was proved of. The toolchain's commands pass
+# over a folder of that name, and `rt ci` leaves it there.
+KEPT = f"{OUT}/rlib"
 TARGET = "x86_64-unknown-linux-gnu"
 # Lines that one processor proves in a second: the first guess of the time, and for how many lines it
 # counts beside what is measured.
