@@ -57,6 +57,10 @@ fn found(known: &[u32], number: u32) -> Option<u32>
     }
 }
 
+// A list that is too short grows by so many places, since results are mostly noted in the order in which
+// squares are made.
+const STEP: usize = 1024;
+
 // Writes the result of a number down. The list's room is doubled where it is too short.
 fn note(known: &mut Vec<u32>, number: u32, found: u32) -> Result<(), AllocError>
     requires { first_number ≤ number }
@@ -65,7 +69,7 @@ fn note(known: &mut Vec<u32>, number: u32, found: u32) -> Result<(), AllocError>
 {
     let place = (number - FIRST_NUMBER) as usize;
     if place >= known.len() {
-        known.resize(place + 1, 0)?;
+        known.resize(place + STEP, 0)?;
     }
     known[place] = found;
     Ok(())

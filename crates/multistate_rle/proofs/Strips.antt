@@ -1,14 +1,17 @@
 -- Strips of cells: where they lie, also by numbers that stand at 2^64 - 1 where they are greater, and their cells one after another.
 use Rattle.std.proofs.lemmas.Bool.Decides.{nat_tests}
-use Rattle.std.proofs.Common.{◌≡◌, ℕ, ◌+◌, ◌-◌, ◌^◌, ◌≤◌, true, false, min, ℤ, pos, ◌+ℤ◌, List, [], ◌∷◌, ◌++◌, ap, sym, ◌∙◌, arith, append_assoc, int_le, int_lt, neg_ℤ, ◌≤ℤ◌, ◌<ℤ◌, w64, SFits}
+use Rattle.std.proofs.Common.{◌≡◌, ℕ, ◌+◌, ◌-◌, ◌^◌, ◌≤◌, true, false, min, refl, ℤ, pos, ◌+ℤ◌, List, [], ◌∷◌, ◌++◌, arith, int_le, int_lt, neg_ℤ, ◌≤ℤ◌, ◌<ℤ◌, w64, SFits}
 use Rattle.std.proofs.lemmas.Bool.{and_parts, and_right, both_ways, cases_lt}
 use Rattle.std.proofs.lemmas.Int.{ints}
-use Rattle.std.proofs.lemmas.List.FromFn.{map-range_with_len_more}
+use Rattle.std.proofs.lemmas.Grind.{flat_map-append}
+use Rattle.std.proofs.lemmas.List.{append-nil}
+use Rattle.plane_core.specs.declared.span.Span.{Span}
+use Rattle.plane_core.specs.Spans.{cells_of_span, cells_of_spans}
 use Rattle.worlds.specs.declared.cell.CellSet.{CellSet}
 use Rattle.worlds.specs.Range.{IsInside}
 use Rattle.multistate_rle.specs.declared.comment.Origin.{Origin}
 use Rattle.multistate_rle.specs.Pattern.{Strip, is_in_range, lies_inside, cells_of}
-use Rattle.multistate_rle.specs.Drawing.{capped, side_by_side}
+use Rattle.multistate_rle.specs.Drawing.{capped}
 
 -- the place of an origin has 64 bits
 pub record IsPlaced (origin : Origin) : Type 0 where
@@ -51,17 +54,10 @@ pub record IsWithin (origin : Origin) (strip : Strip) : Type 0 where
 pub lies_within : (origin : Origin) (strip : Strip) → lies_inside origin strip ≡ true → IsWithin origin strip
 lies_within origin strip inside = grind (arith, ints, nat_tests, and_parts, bounds)
 
--- one cell more
-pub side_by_side_more : (first cell : CellSet) (k : ℕ) (new cells old : List CellSet) → new ≡ cells ++ cell ∷ [] → cells ≡ old ++ side_by_side first k
-    → cell.x ≡ first.x +ℤ pos k → cell.y ≡ first.y → cell.state ≡ first.state → new ≡ old ++ side_by_side first (k + 1)
-side_by_side_more first cell k new cells old pushed before x y state =
-    let last : CellSet = record { x = first.x +ℤ pos k; y = first.y; state = first.state } in
-    pushed
-    ∙ ap (λ cs. cs ++ cell ∷ []) before
-    ∙ append_assoc old (side_by_side first k) (cell ∷ [])
-    ∙ ap (λ c. old ++ (side_by_side first k ++ c ∷ [])) (same_cell cell last x y state)
-    ∙ ap (λ cs. old ++ cs) (sym (map-range_with_len_more (λ (k : ℕ). record { x = first.x +ℤ pos k; y = first.y; state = first.state }) 0 k k (omega arith)))
+-- a strip's cells, as a span
+pub span-strip : (origin : Origin) (strip : Strip) (s : Span) → s.x ≡ origin.x +ℤ pos strip.column → s.y ≡ origin.y +ℤ pos strip.row → s.count ≡ strip.count → s.state ≡ strip.state → cells_of_span s ≡ cells_of origin strip
+span-strip origin strip s x y count state = grind (arith, ints, same_cell)
 
--- a strip's cells, from its first
-pub side_by_side_strip : (origin : Origin) (strip : Strip) (first : CellSet) → first.x ≡ origin.x +ℤ pos strip.column → first.y ≡ origin.y +ℤ pos strip.row → first.state ≡ strip.state → side_by_side first strip.count ≡ cells_of origin strip
-side_by_side_strip origin strip first x y state = grind (arith, ints, same_cell)
+-- one span more
+pub spans-push : (spans : List Span) (s : Span) → cells_of_spans (spans ++ s ∷ []) ≡ cells_of_spans spans ++ cells_of_span s
+spans-push spans s = rw (flat_map-append, append-nil) refl

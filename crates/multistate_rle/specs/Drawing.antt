@@ -1,6 +1,5 @@
 -- A pattern that is drawn run by run; numbers that are greater stand at 2^64 - 1.
-use Rattle.std.specs.Prelude.{◌≡◌, ◌⊎◌, ℕ, ◌+◌, ◌-◌, ◌^◌, ◌==◌, ◌&&◌, Bool, true, false, nat_le, nat_lt, min, map, pos, ◌+ℤ◌, List, [], ◌++◌, Result, Ok, Err, if◌then◌else◌}
-use Rattle.std.specs.List.{range_with_len}
+use Rattle.std.specs.Prelude.{◌≡◌, ◌⊎◌, ℕ, ◌+◌, ◌-◌, ◌^◌, ◌==◌, ◌&&◌, Bool, true, false, nat_le, nat_lt, min, List, [], ◌++◌, Result, Ok, Err, if◌then◌else◌}
 use Rattle.worlds.specs.declared.cell.CellSet.{CellSet}
 use Rattle.worlds.specs.Lay.{lay}
 use Rattle.worlds.specs.World.{World, blank}
@@ -44,12 +43,6 @@ strip_at d n s = record { row = d.row; column = d.column; count = n; state = s }
 -- after so many ends of rows
 abbrev pub after_rows : Drawn → ℕ → Drawn
 after_rows d n = record d { row = capped (d.row + n); column = 0 }
-
--- so many cells side by side, of which this is the first
-abbrev pub side_by_side : CellSet → ℕ → List CellSet
-side_by_side first n =
-    map (λ k. record { x = first.x +ℤ pos k; y = first.y; state = first.state })
-    (range_with_len 0 n)
 
 -- one strip more, which is kept where all that is drawn can be laid
 abbrev pub with_strip : Drawn → Strip → Drawn

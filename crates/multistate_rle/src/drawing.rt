@@ -1,13 +1,13 @@
 //! Drawing a pattern, run by run.
-ghost use Rattle.std.specs.Prelude.{◌≡◌, ◌+◌, ◌<◌, ◌≤◌, ◌++◌, ◌&&◌, ◌^◌, All, IsTrue, OnOk, Err, pos, ◌+ℤ◌, ◌≤ℤ◌};
+ghost use Rattle.std.specs.Prelude.{◌≡◌, ◌+◌, ◌<◌, ◌≤◌, [], ◌∷◌, ◌++◌, ◌&&◌, All, IsTrue, OnOk, Err, pos, ◌+ℤ◌};
 ghost use Rattle.basics.specs.Results.{Gives};
-ghost use Rattle.worlds.specs.Range.{CanBeLaid};
+ghost use Rattle.plane_core.specs.Spans.{CanBeDrawn};
 ghost use Rattle.multistate_rle.specs.Pattern.{cells_of, is_in_range, lies_inside};
-ghost use Rattle.multistate_rle.specs.Drawing.{IsLike, WantsAlone, after_cells, after_rows, given_up, side_by_side, strip_at, undrawn, with_strip, world_drawn};
+ghost use Rattle.multistate_rle.specs.Drawing.{IsLike, WantsAlone, after_cells, after_rows, given_up, strip_at, undrawn, with_strip, world_drawn};
 
 use crate::comment::Origin;
 use crate::fault::RleFault;
-use plane_core::{CellSet, Plane};
+use plane_core::{Plane, Span};
 use std::alloc::{AllocError, Global};
 use std::marker::Model;
 
@@ -29,13 +29,13 @@ pub(crate) struct Drawing {
     live: u64,
     is_inside: bool,
     is_whole: bool,
-    cells: Vec<CellSet>,
+    spans: Vec<Span>,
     alloc: Global,
 }
 
 impl Model for Drawing {
     ghost use Rattle.std.specs.Prelude.{All};
-    ghost use Rattle.worlds.specs.Range.{CanBeLaid};
+    ghost use Rattle.plane_core.specs.Spans.{CanBeDrawn, cells_of_spans};
     ghost use Rattle.multistate_rle.specs.Drawing.{Drawn};
 
     ghost Value = { Drawn };
@@ -47,10 +47,10 @@ impl Model for Drawing {
       live = d.live;
       is_inside = d.is_inside;
       is_whole = d.is_whole;
-      cells = d.cells.items;
+      cells = cells_of_spans d.spans.items;
     } };
 
-    ghost invariant = { λ d. All CanBeLaid d.cells.items };
+    ghost invariant = { λ d. All CanBeDrawn d.spans.items };
 }
 
 impl Drawing {
@@ -65,7 +65,7 @@ impl Drawing {
             live: 0,
             is_inside: true,
             is_whole: true,
-            cells: Vec::new(alloc),
+            spans: Vec::new(alloc),
             alloc,
         }
     }
@@ -106,7 +106,7 @@ impl Drawing {
         ensures { self.new ≡ given_up self.old }
     {
         self.is_whole = false;
-        self.cells = Vec::new(self.alloc);
+        self.spans = Vec::new(self.alloc);
     }
 
     // Whether so many cells from here on lie in the plane.
@@ -128,12 +128,13 @@ impl Drawing {
             let cells = self.old.cells ++ cells_of self.old.origin strip in
             IsLike (record self.old { cells = cells }) self.new }
     {
-        let first = CellSet {
+        let span = Span {
             x: shifted(self.origin.x, self.column) as i64,
             y: shifted(self.origin.y, self.row) as i64,
+            count: count as u32,
             state: u16::from(state),
         };
-        if push_strip(&mut self.cells, first, count).is_err() {
+        if push_span(&mut self.spans, span).is_err() {
             self.give_up();
         }
     }
@@ -155,25 +156,18 @@ impl Drawing {
         if !self.is_whole {
             return Err(RleFault::NoMemory);
         }
-        Ok(Plane::from_cells(self.alloc, self.cells)?)
+        Ok(Plane::from_spans(self.alloc, self.spans)?)
     }
 }
 
-// Adds so many cells side by side, of which this is the first.
-fn push_strip(cells: &mut Vec<CellSet>, first: CellSet, count: u64) -> Result<(), AllocError>
-    requires few { count ≤ LIVE_LIMIT }
-    requires laid { All CanBeLaid cells.old.items }
-    requires first { CanBeLaid first }
-    requires last { (first.x +ℤ pos count) ≤ℤ pos (2 ^ 61) }
-    ensures laid { All CanBeLaid cells.new.items }
-    ensures cells { OnOk result (cells.new.items ≡ cells.old.items ++ side_by_side first count) }
+// Adds a span.
+fn push_span(spans: &mut Vec<Span>, span: Span) -> Result<(), AllocError>
+    requires range { All CanBeDrawn spans.old.items }
+    requires span { CanBeDrawn span }
+    ensures range { All CanBeDrawn spans.new.items }
+    ensures spans { OnOk result (spans.new.items ≡ spans.old.items ++ span ∷ []) }
 {
-    for k in 0..count {
-        cells.push(CellSet {
-            x: first.x + k as i64,
-            ..first
-        })?;
-    }
+    spans.push(span)?;
     Ok(())
 }
 

@@ -1,27 +1,31 @@
 -- Cells laid on squares.
-use Rattle.std.proofs.Common.{◌≡◌, ℕ, zero, suc, ◌+◌, ◌-◌, ◌<◌, ◌≤◌, ◌^◌, false, cond, List, [], ◌∷◌, ◌++◌, length, get_or, take, slice_set, Bor, refl, sym, ap, ap₂, ◌∙◌, subst, subst₂, arith, inl, inr, ℤ, pos, ◌+ℤ◌}
-use Rattle.std.specs.Prelude.{All}
-use Rattle.std.proofs.lemmas.Bool.{cases_lt, cases_eq, cond-true, cond-false, eq-eqb, ne_eqb, false_from_ne_true}
-use Rattle.std.proofs.lemmas.Grind.{common_steps, flat_map-append}
+use Rattle.std.proofs.Common.{◌≡◌, ℕ, zero, suc, ◌+◌, ◌-◌, ◌<◌, ◌≤◌, ◌^◌, false, cond, List, [], ◌∷◌, ◌++◌, length, get_or, take, Bor, refl, sym, ap, ap₂, ◌∙◌, subst, subst₂, arith, inl, inr, ◌⊎◌, ℤ, pos, ◌+ℤ◌, ◌≤ℤ◌, ◌<ℤ◌}
+use Rattle.std.specs.Prelude.{◌↔◌, All, Bool, IsTrue, map}
+use Rattle.std.specs.List.{range_with_len}
+use Rattle.std.proofs.lemmas.Bool.{both_ways, cond-false, cond_both, false_from_ne_true}
+use Rattle.std.proofs.lemmas.Grind.{flat_map-append}
 use Rattle.std.proofs.lemmas.Int.{ints}
-use Rattle.std.proofs.lemmas.List.{append_assoc, append-nil, take_more, nil_from_length, get_or-set_same, get_or-set_other, length-set}
+use Rattle.std.proofs.lemmas.List.{append_assoc, append-nil, take_more}
+use Rattle.std.proofs.lemmas.List.FromFn.{map-range_with_len_more}
 use Rattle.std.proofs.lemmas.List.Elements.{All-nil, All-cons, All-append, All-head, All-tail}
 use Rattle.worlds.specs.declared.cell.CellSet.{CellSet}
-use Rattle.worlds.specs.World.{World, cell, cell-put, same_place, same_world}
+use Rattle.worlds.specs.World.{Place, World, cell, cell-put, same_place, same_world}
 use Rattle.worlds.specs.Fill.{same_is, is_same}
-use Rattle.worlds.specs.Lay.{lay, lay-append, lay-push}
+use Rattle.worlds.specs.Lay.{lay, lay-append, lay-push, last_mention, cell-lay}
 use Rattle.worlds.specs.Square.{Square, cell_in, IsIn}
 use Rattle.plane_core.specs.declared.row.SquareRow.{SquareRow}
 use Rattle.plane_core.specs.declared.part.Part.{Part}
-use Rattle.plane_core.specs.declared.lay.Parts.{Parts}
-use Rattle.plane_core.specs.Rows.{IsNumber, square_in, root_level, edge_of, world_of_rows}
-use Rattle.plane_core.specs.Part.{Covers, IsPart, IsQuadrant, IsRoot, Shows, east, south, quadrant_at}
-use Rattle.plane_core.specs.Laid.{square_of, AreQuadrants, Keeps, IsAdded, AreThoseIn, AreParted, AreLaidStates, AreStatesOf, IsCellOf, IsLaid, IsPut, cells_of_runs, quadrant_of, renumbered}
-use Rattle.plane_core.proofs.Shared.Sound.{IsNumber-level}
+use Rattle.plane_core.specs.declared.part.Spot.{Spot}
+use Rattle.plane_core.specs.declared.span.Span.{Span}
+use Rattle.plane_core.specs.Rows.{AreRows, IsNumber, square_in, root_level, edge_of, world_of_rows}
+use Rattle.plane_core.specs.Part.{Covers, IsPart, IsQuadrant, IsRoot, Shows, east, south}
+use Rattle.plane_core.specs.Spans.{CanBeDrawn, Holds, cell_of, cells_of_span, cells_of_spans, drawn}
+use Rattle.plane_core.specs.Laid.{square_of, AreQuadrants, Keeps, IsAdded, AddsTouching, AreThoseIn, AreLaidStates, AreStatesOf, IsLaid, IsMade, IsNamed, LiesIn, Touches, spans_of_runs, quadrant_of, renumbered}
+use Rattle.plane_core.proofs.Shared.Sound.{IsNumber-from, zero-IsNumber}
 use Rattle.plane_core.proofs.Shared.Cells.{in_or_out, offsets}
-use Rattle.plane_core.proofs.Shared.Roots.{root_level-some, world-outside, root-cells, root-side}
-use Rattle.plane_core.proofs.Shared.Adding.{Keeps-none, Keeps-then}
-use Rattle.plane_core.proofs.Parts.{moved, in_quadrant, of_quadrant, east-le, south-le, quadrant-cell, quadrant-split, root-outside, shows-one, state-cell}
+use Rattle.plane_core.proofs.Shared.Roots.{world-outside, root-cells, root-side}
+use Rattle.plane_core.proofs.Shared.Adding.{Keeps-none, Keeps-then, quadrants-none, quadrants-row, root_added}
+use Rattle.plane_core.proofs.Parts.{moved, in_quadrant, east-le, south-le, quadrant-cell, quadrant-split, root-outside, shows-one, state-cell}
 
 -- the place of a cell inside a square isn't one outside
 pub other_place : (n : ℕ) (l t x y x' y' : ℤ) → IsIn n l t x y → (IsIn n l t x' y' → ⊥) → same_place (y, x) (y', x') ≡ false
@@ -35,64 +39,109 @@ outer_place n l t x y x' y' out here = grind (arith, ints, false_from_ne_true, s
 more : (cs : List CellSet) (c : CellSet) (w : World) (x y : ℤ) → cell (lay (cs ++ c ∷ []) w) x y ≡ cond (same_place (y, x) (c.y, c.x)) c.state (cell (lay cs w) x y)
 more cs c w x y = ap (λ v. cell v x y) (lay-push cs c w) ∙ cell-put (lay cs w) c.x c.y c.state x y
 
--- outside the square that holds the cells nothing changes
-lay-outside : (p : Part) (cs : List CellSet) (w : World) (x y : ℤ) → (Covers p x y → ⊥) → All (λ c. Covers p c.x c.y) cs → cell (lay cs w) x y ≡ cell w x y
-lay-outside p [] w x y out all = refl
-lay-outside p (c ∷ cs) w x y out all =
-    lay-outside p cs _ x y out (All-tail (λ c. Covers p c.x c.y) c cs all)
-    ∙ cell-put w c.x c.y c.state x y
-    ∙ cond-false _ _ _ (outer_place (2 ^ p.level) p.corner.x p.corner.y x y c.x c.y out (All-head (λ c. Covers p c.x c.y) c cs all))
+-- the cells of a span, as many as are drawn
+abbrev first_cells : Span → ℕ → List CellSet
+first_cells s n = map (cell_of s) (range_with_len 0 n)
 
--- one more of the cells, which lies in the square
-those-more : (p : Part) (cs here : List CellSet) (c : CellSet) → IsCellOf p c → AreThoseIn p cs here → AreThoseIn p (cs ++ c ∷ []) (here ++ c ∷ [])
-those-more p cs here c is those = grind (arith, common_steps, All-append, All-cons, All-nil, more)
+drawn-more : (s : Span) (n : ℕ) (w : World) (x y : ℤ) → cell (lay (first_cells s (n + 1)) w) x y ≡ cond (same_place (y, x) (s.y, s.x +ℤ pos n)) s.state (cell (lay (first_cells s n) w) x y)
+drawn-more s n w x y =
+    ap (λ (cs : List CellSet). cell (lay cs w) x y) (map-range_with_len_more (cell_of s) 0 n n (omega arith))
+    ∙ more (first_cells s n) (cell_of s n) w x y
 
--- one more, which doesn't
-those-passed : (p : Part) (cs here : List CellSet) (c : CellSet) → (Covers p c.x c.y → ⊥) → AreThoseIn p cs here → AreThoseIn p (cs ++ c ∷ []) here
-those-passed p cs here c out those = grind (arith, more, cond-false, other_place)
+before-last : (x a : ℤ) (n : ℕ) → x <ℤ (a +ℤ pos (n + 1)) → (x ≡ a +ℤ pos n → ⊥) → x <ℤ (a +ℤ pos n)
+before-last x a n below other = grind (arith, ints)
 
--- a cell of the square lies in the quadrant that holds it, and in no other
-module _ (p : Part) (c : CellSet) (q r n : ℕ) (some : 1 ≤ p.level) (is : IsCellOf p c) (at : q ≡ quadrant_at p c.x c.y) (few : r < 4) where
-  stands : IsQuadrant r p (quadrant_of p r n)
-  stands = record { level = refl; x = refl; y = refl }
+first-inside : (s : Span) (n : ℕ) (w : World) (x y : ℤ) → y ≡ s.y → s.x ≤ℤ x → x <ℤ (s.x +ℤ pos n) → cell (lay (first_cells s n) w) x y ≡ s.state
+first-inside s zero w x y row left right = absurd (omega (arith, ints))
+first-inside s (suc n) w x y row left right =
+    let one : suc n ≡ n + 1 = omega arith in
+    ap (λ k. cell (lay (first_cells s k) w) x y) one
+    ∙ drawn-more s n w x y
+    ∙ cond_both (same_place (y, x) (s.y, s.x +ℤ pos n)) s.state (cell (lay (first_cells s n) w) x y) (λ v. v ≡ s.state) (λ e. refl)
+    (λ e. first-inside s n w x y row left (before-last x s.x n (omega (arith, ints)) (λ last. both_ways _ e (is_same (y, x) (s.y, s.x +ℤ pos n) row last))))
 
-  in_own : r ≡ q → IsCellOf (quadrant_of p r n) c
-  in_own same = (of_quadrant r p (quadrant_of p r n) some few stands c.x c.y is.0 (sym (same ∙ at)), is.1)
+first-outside : (s : Span) (n : ℕ) (w : World) (x y : ℤ) → (y ≡ s.y → s.x ≤ℤ x → x <ℤ (s.x +ℤ pos n) → ⊥) → cell (lay (first_cells s n) w) x y ≡ cell w x y
+first-outside s zero w x y out = refl
+first-outside s (suc n) w x y out =
+    let one : suc n ≡ n + 1 = omega arith in
+    let apart = false_from_ne_true (same_place (y, x) (s.y, s.x +ℤ pos n)) (λ e.
+      let at = same_is (y, x) (s.y, s.x +ℤ pos n) e in
+      let column : x ≡ s.x +ℤ pos n = ap (λ (p : Place). p.1) at in
+      out (ap (λ (p : Place). p.0) at) (omega (arith, ints)) (omega (arith, ints))) in
+    ap (λ k. cell (lay (first_cells s k) w) x y) one
+    ∙ drawn-more s n w x y
+    ∙ cond-false _ _ _ apart
+    ∙ first-outside s n w x y (λ row left right. out row left (omega (arith, ints)))
 
-  in_no_other : (r ≡ q → ⊥) → Covers (quadrant_of p r n) c.x c.y → ⊥
-  in_no_other other here = other (sym (in_quadrant r p (quadrant_of p r n) some few stands c.x c.y here).1 ∙ sym at)
+-- what a span does to its cells, and to others
+span-inside : (s : Span) (w : World) (x y : ℤ) → Holds s x y → cell (lay (cells_of_span s) w) x y ≡ s.state
+span-inside s w x y h = first-inside s s.count w x y h.row h.left h.right
 
--- cells that all lie in the square
-those-run : (p : Part) (cs here run : List CellSet) → All (IsCellOf p) run → AreThoseIn p cs here → AreThoseIn p (cs ++ run) (here ++ run)
-those-run p cs here [] all those = subst₂ (AreThoseIn p) (sym (append-nil cs)) (sym (append-nil here)) those
-those-run p cs here (c ∷ run) all those =
-    subst₂ (AreThoseIn p) (append_assoc cs (c ∷ []) run) (append_assoc here (c ∷ []) run)
-    (those-run p (cs ++ c ∷ []) (here ++ c ∷ []) run (All-tail (IsCellOf p) c run all)
-    (those-more p cs here c (All-head (IsCellOf p) c run all) those))
+span-outside : (s : Span) (w : World) (x y : ℤ) → (Holds s x y → ⊥) → cell (lay (cells_of_span s) w) x y ≡ cell w x y
+span-outside s w x y out = first-outside s s.count w x y (λ row left right. out (record { row = row; left = left; right = right }))
 
--- cells of which none does
-those-run_passed : (p : Part) (cs here run : List CellSet) → All (λ c. Covers p c.x c.y → ⊥) run → AreThoseIn p cs here → AreThoseIn p (cs ++ run) here
-those-run_passed p cs here [] none those = subst (λ (ds : List CellSet). AreThoseIn p ds here) (sym (append-nil cs)) those
-those-run_passed p cs here (c ∷ run) none those =
-    subst (λ (ds : List CellSet). AreThoseIn p ds here) (append_assoc cs (c ∷ []) run)
-    (those-run_passed p (cs ++ c ∷ []) here run (All-tail (λ c. Covers p c.x c.y → ⊥) c run none)
-    (those-passed p cs here c (All-head (λ c. Covers p c.x c.y → ⊥) c run none) those))
+-- spans drawn one list after another
+pub drawn-append : (a b : List Span) (w : World) → drawn (a ++ b) w ≡ drawn b (drawn a w)
+drawn-append a b w = ap (λ (cs : List CellSet). lay cs w) (flat_map-append cells_of_span a b) ∙ lay-append (cells_of_spans a) (cells_of_spans b) w
 
-pub parted-run : (p : Part) (cs run : List CellSet) (old new : Parts) (q : ℕ) → 1 ≤ p.level → All (IsCellOf p) run → All (λ c. q ≡ quadrant_at p c.x c.y) run → IsPut q run old new
-    → AreParted p cs old → AreParted p (cs ++ run) new
-parted-run p cs run old new q some all at put before r few =
-    elim (cases_eq r q) [
-      | inl same ↦
-          subst (AreThoseIn (quadrant_of p r 0) (cs ++ run)) (sym (put r few ∙ cond-true _ _ _ (eq-eqb r q same)))
-          (those-run (quadrant_of p r 0) cs _ run (λ i d below. in_own p (get_or run i d) q r 0 some (all i d below) (at i d below) few same) (before r few))
-      | inr other ↦
-          subst (AreThoseIn (quadrant_of p r 0) (cs ++ run)) (sym (put r few ∙ cond-false _ _ _ (ne_eqb r q other)))
-          (those-run_passed (quadrant_of p r 0) cs _ run (λ i d below. in_no_other p (get_or run i d) q r 0 some (all i d below) (at i d below) few other) (before r few))
-    ]
+-- a cell is the same after them where it was the same before
+drawn-same : (a : List Span) (v w : World) (x y : ℤ) → cell v x y ≡ cell w x y → cell (drawn a v) x y ≡ cell (drawn a w) x y
+drawn-same a v w x y same = cell-lay (cells_of_spans a) v x y ∙ ap (last_mention (cells_of_spans a) x y) same ∙ sym (cell-lay (cells_of_spans a) w x y)
+
+-- spans that don't hold a cell leave it
+drawn-outside : (a : List Span) (w : World) (x y : ℤ) → All (λ s. Holds s x y → ⊥) a → cell (drawn a w) x y ≡ cell w x y
+drawn-outside [] w x y out = refl
+drawn-outside (s ∷ a) w x y out =
+    ap (λ (v : World). cell v x y) (lay-append (cells_of_span s) (cells_of_spans a) w)
+    ∙ drawn-outside a (lay (cells_of_span s) w) x y (All-tail (λ s. Holds s x y → ⊥) s a out)
+    ∙ span-outside s w x y (All-head (λ s. Holds s x y → ⊥) s a out)
+
+-- what touches no square holds none of its cells
+apart : (p : Part) (s : Span) (x y : ℤ) → (Touches p s → ⊥) → Covers p x y → Holds s x y → ⊥
+apart p s x y far covers holds = far (record { top = omega (arith, ints); bottom = omega (arith, ints); left = omega (arith, ints); right = omega (arith, ints) })
+
+-- none yet
+pub those-none : (p : Part) → AreThoseIn p [] []
+those-none p = record { range = All-nil CanBeDrawn; same = λ w x y covers. refl }
+
+-- spans that are kept
+pub those-kept : (p : Part) (ss here run : List Span) → All CanBeDrawn run → AreThoseIn p ss here → AreThoseIn p (ss ++ run) (here ++ run)
+those-kept p ss here run range those = record {
+  range = All-append CanBeDrawn here run those.range range;
+  same = λ w x y covers.
+      ap (λ (v : World). cell v x y) (drawn-append here run w)
+      ∙ drawn-same run (drawn here w) (drawn ss w) x y (those.same w x y covers)
+      ∙ ap (λ (v : World). cell v x y) (sym (drawn-append ss run w));
+}
+
+-- spans that don't touch the square
+pub those-passed : (p : Part) (ss here run : List Span) → All (λ s. Touches p s → ⊥) run → AreThoseIn p ss here → AreThoseIn p (ss ++ run) here
+those-passed p ss here run far those = record {
+  range = those.range;
+  same = λ w x y covers.
+      those.same w x y covers
+      ∙ sym (drawn-outside run (drawn ss w) x y (λ i d below. apart p (get_or run i d) x y (far i d below) covers))
+      ∙ ap (λ (v : World). cell v x y) (sym (drawn-append ss run w));
+}
 
 -- runs, one more of which
-pub runs-more : (runs : List (Bor (List CellSet))) (i : ℕ) (d : Bor (List CellSet)) → i < length runs → cells_of_runs (take (i + 1) runs) ≡ cells_of_runs (take i runs) ++ (get_or runs i d).now
+pub runs-more : (runs : List (Bor (List Span))) (i : ℕ) (d : Bor (List Span)) → i < length runs → spans_of_runs (take (i + 1) runs) ≡ spans_of_runs (take i runs) ++ (get_or runs i d).now
 runs-more runs i d below = rw (take_more runs i d below, flat_map-append, append-nil) refl
+
+pub runs-push : (runs : List (Bor (List Span))) (run : Bor (List Span)) → spans_of_runs (runs ++ run ∷ []) ≡ spans_of_runs runs ++ run.now
+runs-push runs run = rw (flat_map-append, append-nil) refl
+
+-- a run that is added
+pub adds-kept : (p : Part) (done : List Span) (run : Bor (List Span)) (old mid new : List (Bor (List Span))) → All CanBeDrawn run.now → new ≡ mid ++ run ∷ [] → AddsTouching p done old mid → AddsTouching p (done ++ run.now) old new
+adds-kept p done run old mid new range is adds = λ before those.
+    subst₂ (AreThoseIn p) (append_assoc before done run.now) (sym (ap spans_of_runs is ∙ runs-push mid run))
+    (those-kept p (before ++ done) (spans_of_runs mid) run.now range (adds before those))
+
+-- one that isn't
+pub adds-passed : (p : Part) (done run : List Span) (old mid : List (Bor (List Span))) (is_near : Bool) → false ≡ is_near → All (λ s. IsTrue is_near ↔ Touches p s) run → AddsTouching p done old mid → AddsTouching p (done ++ run) old mid
+adds-passed p done run old mid is_near not same adds = λ before those.
+    subst (λ (ss : List Span). AreThoseIn p ss (spans_of_runs mid)) (append_assoc before done run)
+    (those-passed p (before ++ done) (spans_of_runs mid) run (λ i d below near. both_ways is_near (sym not) ((same i d below).1 near)) (adds before those))
 
 pub all-left : {X : Type 0} (P : X → Type 0) (a b : List X) → All P (a ++ b) → All P a
 all-left P [] b all = All-nil P
@@ -102,44 +151,48 @@ pub all-right : {X : Type 0} (P : X → Type 0) (a b : List X) → All P (a ++ b
 all-right P [] b all = all
 all-right P (x ∷ a) b all = all-right P a b (All-tail P x (a ++ b) all)
 
--- what holds of all cells of runs holds of those of each
-pub all-run : (P : CellSet → Type 0) (runs : List (Bor (List CellSet))) (i : ℕ) (d : Bor (List CellSet)) → i < length runs → All P (cells_of_runs runs) → All P (get_or runs i d).now
+-- what holds of all spans of runs holds of those of each
+pub all-run : (P : Span → Type 0) (runs : List (Bor (List Span))) (i : ℕ) (d : Bor (List Span)) → i < length runs → All P (spans_of_runs runs) → All P (get_or runs i d).now
 all-run P [] i d below all = let no : ⊥ = omega arith in absurd no
-all-run P (r ∷ rs) zero d below all = all-left P r.now (cells_of_runs rs) all
-all-run P (r ∷ rs) (suc i) d below all = all-run P rs i d (omega arith) (all-right P r.now (cells_of_runs rs) all)
+all-run P (r ∷ rs) zero d below all = all-left P r.now (spans_of_runs rs) all
+all-run P (r ∷ rs) (suc i) d below all = all-run P rs i d (omega arith) (all-right P r.now (spans_of_runs rs) all)
 
--- cells are laid on a square of level 1, and then others
-pub laid-then : (p : Part) (cs ds : List CellSet) (old mid new : List ℕ) → AreLaidStates p cs old mid → AreLaidStates p ds mid new → AreLaidStates p (cs ++ ds) old new
-laid-then p cs ds old mid new first second = record {
-  count = second.count ∙ first.count;
+-- spans are drawn on a square of level 1, and then others
+pub laid-then : (p : Part) (a b : List Span) (old mid new : List ℕ) → AreLaidStates p a old mid → AreLaidStates p b mid new → AreLaidStates p (a ++ b) old new
+laid-then p a b old mid new first second = record {
   small = second.small;
-  each = λ w states. subst (λ (v : World). AreStatesOf v p new) (sym (lay-append cs ds w)) (second.each (lay cs w) (first.each w states));
+  each = λ w states. subst (λ (v : World). AreStatesOf v p new) (sym (drawn-append a b w)) (second.each (drawn a w) (first.each w states));
 }
 
--- one more cell is set on a square of level 1
-pub laid-more : (p : Part) (cs : List CellSet) (c : CellSet) (old new : List ℕ) (q : ℕ) → p.level ≡ 1 → IsCellOf p c → q ≡ quadrant_at p c.x c.y → q < length new
-    → AreLaidStates p cs old new → AreLaidStates p (cs ++ c ∷ []) old (slice_set new q c.state)
-laid-more p cs c old new q one is at there laid =
-    let some : 1 ≤ p.level = omega arith in
-    let set = λ (r : ℕ) (same : r ≡ q). ap (λ k. get_or (slice_set new q c.state) k 0) same ∙ get_or-set_same new q c.state 0 there in
-    let unit : 2 ^ (p.level - 1) ≡ 1 = ap (λ k. 2 ^ (k - 1)) one in
-    record {
-      count = length-set new q c.state ∙ laid.count;
-      small = grind (arith, cases_eq, get_or-set_other);
-      each = λ w states r few.
-          let part = quadrant_of p r 0 in
-          let own : Covers part part.corner.x part.corner.y = record { left = omega (arith, ints); right = omega (arith, ints); top = omega (arith, ints); bottom = omega (arith, ints) } in
-          more cs c w part.corner.x part.corner.y
-          ∙ elim (cases_eq r q) [
-            | inl same ↦
-                let here = (in_own p c q r 0 some is at few same).0 in
-                cond-true _ _ _ (is_same (part.corner.y, part.corner.x) (c.y, c.x) (omega (arith, ints)) (omega (arith, ints))) ∙ sym (set r same)
-            | inr other ↦
-                cond-false _ _ _ (other_place (2 ^ part.level) part.corner.x part.corner.y part.corner.x part.corner.y c.x c.y own (in_no_other p c q r 0 some is at few other))
-                ∙ laid.each w states r few
-                ∙ sym (get_or-set_other new q r c.state 0 other)
-          ];
-    }
+-- a cell's state after a span is drawn
+pub record IsDrawnState (s : Span) (corner : Spot) (old new : ℕ) : Type 0 where
+  pub inside : Holds s corner.x corner.y → new ≡ s.state
+  pub outside : (Holds s corner.x corner.y → ⊥) → new ≡ old
+
+-- the same by its place
+pub drawn-at : (s : Span) (a b : Spot) (old new : ℕ) → a.x ≡ b.x → a.y ≡ b.y → (Holds s a.x a.y → new ≡ s.state) → ((Holds s a.x a.y → ⊥) → new ≡ old) → IsDrawnState s b old new
+drawn-at s a b old new x y inside outside = record { inside = λ h. inside (subst₂ (Holds s) (sym x) (sym y) h); outside = λ out. outside (λ h. out (subst₂ (Holds s) x y h)) }
+
+-- whether a span holds a cell
+holds_or_not : (s : Span) (x y : ℤ) → Holds s x y ⊎ (Holds s x y → ⊥)
+holds_or_not s x y = grind (arith, ints)
+
+-- a span is drawn on a square of level 1
+pub drawn-block : (p : Part) (s : Span) (old new : List ℕ) → CanBeDrawn s → ((q : ℕ) → q < 4 → get_or old q 0 < 256)
+    → ((q : ℕ) → q < 4 → IsDrawnState s (quadrant_of p q 0).corner (get_or old q 0) (get_or new q 0)) → AreLaidStates p (s ∷ []) old new
+drawn-block p s old new range small each = record {
+  small = λ q few. elim (holds_or_not s (quadrant_of p q 0).corner.x (quadrant_of p q 0).corner.y) [
+    | inl holds ↦ omega (arith, (each q few).inside holds, range.state)
+    | inr out ↦ omega (arith, (each q few).outside out, small q few)
+  ];
+  each = λ w states q few.
+      let corner = (quadrant_of p q 0).corner in
+      ap (λ (cs : List CellSet). cell (lay cs w) corner.x corner.y) (append-nil (cells_of_span s))
+      ∙ elim (holds_or_not s corner.x corner.y) [
+        | inl holds ↦ span-inside s w corner.x corner.y holds ∙ sym ((each q few).inside holds)
+        | inr out ↦ span-outside s w corner.x corner.y out ∙ states q few ∙ sym ((each q few).outside out)
+      ];
+}
 
 -- what was shown stays shown
 shows-kept : (w : World) (old new : List SquareRow) (p : Part) → Keeps old new → IsNumber old p.level p.number → Shows w old p → Shows w new p
@@ -170,25 +223,34 @@ shows-four w rows new p kids n some shows square = record {
 same_part : (q n : ℕ) (p r : Part) → IsQuadrant q p r → renumbered r n ≡ quadrant_of p q n
 same_part q n p r is = λ i. record { level = is.level i; number = n; corner = record { x = is.x i; y = is.y i } }
 
--- the cells of a quadrant may be laid on it
-pub goes_on : (q : ℕ) (p r : Part) (d rows : List SquareRow) (cells own : List CellSet) → d ≡ rows → length rows < 2 ^ 32 → 1 ≤ r.level → IsPart d r → IsQuadrant q p r → AreThoseIn (quadrant_of p q 0) cells own
-    → (IsPart rows r × (1 ≤ r.level)) × ((length rows < 2 ^ 32) × All (IsCellOf r) own)
-goes_on q p r d rows cells own same few low is at those = ((subst (λ (rs : List SquareRow). IsPart rs r) same is, low), (few, subst (λ (r : Part). All (IsCellOf r) own) (sym (same_part q 0 p r at)) those.inside))
+-- spans may be drawn on a quadrant
+pub goes_on : (r : Part) (d rows : List SquareRow) (spans lent : List (Bor (List Span))) → d ≡ rows → lent ≡ spans → length rows < 2 ^ 32 → 1 ≤ r.level → IsPart d r → All CanBeDrawn (spans_of_runs spans)
+    → (IsPart rows r × (1 ≤ r.level)) × ((length rows < 2 ^ 32) × All CanBeDrawn (spans_of_runs lent))
+goes_on r d rows spans lent same held few low is range =
+    ((subst (λ (rs : List SquareRow). IsPart rs r) same is, low), (few, subst (λ (ss : List (Bor (List Span))). All CanBeDrawn (spans_of_runs ss)) (sym held) range))
 
--- the cells are laid on one quadrant while others were made or will be
-pub laid-quadrant : (rows r1 r2 r4 : List SquareRow) (q n : ℕ) (p r : Part) (cells own : List CellSet) → IsPart rows p → IsQuadrant q p r → {d : List SquareRow} → d ≡ r1 → ((w : World) → Shows w d p → Shows w d r)
-    → Keeps rows r1 → IsLaid r1 r2 r n own → AreThoseIn (quadrant_of p q 0) cells own → Keeps r2 r4 → (w : World) → Shows w rows p → Shows (lay cells w) r4 (quadrant_of p q n)
-laid-quadrant rows r1 r2 r4 q n p r cells own is quadrant same down before laid those after w shows =
+-- the spans are drawn on one quadrant while others were made or will be
+pub laid-quadrant : (rows r1 r2 r4 : List SquareRow) (q n : ℕ) (p r : Part) (spans own : List Span) → 1 ≤ p.level → q < 4 → IsPart rows p → IsQuadrant q p r → {d : List SquareRow} → d ≡ r1 → ((w : World) → Shows w d p → Shows w d r)
+    → Keeps rows r1 → IsLaid r1 r2 r n own → AreThoseIn p spans own → Keeps r2 r4 → (w : World) → Shows w rows p → Shows (drawn spans w) r4 (quadrant_of p q n)
+laid-quadrant rows r1 r2 r4 q n p r spans own some few is quadrant same down before laid those after w shows =
     let down_one = subst (λ (d : List SquareRow). (w : World) → Shows w d p → Shows w d r) same down in
-    subst (Shows (lay cells w) r4) (same_part q n p r quadrant)
-    (shows-kept (lay cells w) r2 r4 (renumbered r n) after laid.number
-    (shows-same (lay own w) (lay cells w) r2 (renumbered r n)
-    (λ x y h. those.same w x y (subst (λ (r : Part). Covers r x y) (same_part q 0 p r quadrant) h))
+    subst (Shows (drawn spans w) r4) (same_part q n p r quadrant)
+    (shows-kept (drawn spans w) r2 r4 (renumbered r n) after laid.number
+    (shows-same (drawn own w) (drawn spans w) r2 (renumbered r n)
+    (λ x y h. those.same w x y (in_quadrant q p r some few quadrant x y h).0)
     (laid.shows w (down_one w (shows-kept w rows r1 p before is.number shows)))))
 
-pub laid-four : (rows r4 r5 : List SquareRow) (p : Part) (kids : List ℕ) (n : ℕ) (cells : List CellSet) → 1 ≤ p.level → Keeps rows r4
-    → ((q : ℕ) → q < 4 → (w : World) → Shows w rows p → Shows (lay cells w) r4 (quadrant_of p q (get_or kids q 0))) → IsAdded r4 r5 p.level n (square_of r4 (p.level - 1) kids) → IsLaid rows r5 p n cells
-laid-four rows r4 r5 p kids n cells some keeps shows added = grind (arith, Keeps-then, shows-four)
+pub laid-four : (rows r4 r5 : List SquareRow) (p : Part) (kids : List ℕ) (n : ℕ) (spans : List Span) → 1 ≤ p.level → Keeps rows r4
+    → ((q : ℕ) → q < 4 → (w : World) → Shows w rows p → Shows (drawn spans w) r4 (quadrant_of p q (get_or kids q 0))) → IsMade r4 r5 p.level n (square_of r4 (p.level - 1) kids) → IsLaid rows r5 p n spans
+laid-four rows r4 r5 p kids n spans some keeps shows made = grind (arith, Keeps-then, shows-four)
+
+-- where no span touches the square it stays
+pub laid-none : (rows : List SquareRow) (p : Part) (spans : List Span) → IsPart rows p → length rows < 2 ^ 32 → AreThoseIn p spans [] → IsLaid rows rows p p.number spans
+laid-none rows p spans is few those = record {
+  keeps = Keeps-none rows is.valid few;
+  number = is.number;
+  shows = λ w shows. shows-same w (drawn spans w) rows p (λ x y h. those.same w x y h) shows;
+}
 
 -- a state of a square of level 1
 block-state : (rows : List SquareRow) (p : Part) (kids : List ℕ) (r : ℕ) → p.level ≡ 1 → AreQuadrants rows 0 p.number kids → r < 4
@@ -200,40 +262,86 @@ block-state rows p kids r one parts few =
     ∙ state-cell rows 0 (get_or kids r 0) 0 0 refl)
 
 -- on a square of level 1
-pub laid-block : (rows new : List SquareRow) (p : Part) (kids states : List ℕ) (n : ℕ) (cells : List CellSet) → IsPart rows p → p.level ≡ 1 → length rows < 2 ^ 32 → AreQuadrants rows 0 p.number kids
-    → AreLaidStates p cells kids states → IsAdded rows new 1 n (square_of rows 0 states) → IsLaid rows new p n cells
-laid-block rows new p kids states n cells is one few parts laid added =
+pub laid-block : (rows new : List SquareRow) (p : Part) (kids states : List ℕ) (n : ℕ) (spans : List Span) → IsPart rows p → p.level ≡ 1 → length rows < 2 ^ 32 → AreQuadrants rows 0 p.number kids
+    → AreLaidStates p spans kids states → IsMade rows new 1 n (square_of rows 0 states) → IsLaid rows new p n spans
+laid-block rows new p kids states n spans is one few parts laid made =
     let ground_level : p.level - 1 ≡ 0 = ap (λ k. k - 1) one in
     let unit : 2 ^ (p.level - 1) ≡ 1 = ap (λ k. 2 ^ k) ground_level in
     let side = root-side p.level (omega arith) in
-    laid-four rows rows new p states n cells (omega arith) (Keeps-none rows is.valid few) (λ q hq w shows.
-    shows-one (lay cells w) rows (quadrant_of p q (get_or states q 0)) ground_level
+    laid-four rows rows new p states n spans (omega arith) (Keeps-none rows is.valid few) (λ q hq w shows.
+    shows-one (drawn spans w) rows (quadrant_of p q (get_or states q 0)) ground_level
     (laid.each w (λ r hr.
     let a = east-le (2 ^ (p.level - 1)) r in let b = south-le (2 ^ (p.level - 1)) r in
     ap₂ (cell w) (omega (arith, ints)) (omega (arith, ints))
     ∙ shows.cells (east (2 ^ (p.level - 1)) r + 0) (south (2 ^ (p.level - 1)) r + 0) (omega arith) (omega arith)
     ∙ block-state rows p kids r one parts hr) q hq))
-    (subst (λ k. IsAdded rows new k n (square_of rows (k - 1) states)) (sym one) added)
+    (subst (λ k. IsMade rows new k n (square_of rows (k - 1) states)) (sym one) made)
 
--- the root's level stays
-root-laid : (rows new : List SquareRow) (p : Part) (n : ℕ) (cells : List CellSet) → IsRoot rows p → IsLaid rows new p n cells → root_level new ≡ p.level
-root-laid rows new p n cells root laid =
+-- a row that is added is made
+pub added-made : (old new : List SquareRow) (k n : ℕ) (s : Square) → IsAdded old new k n s → IsMade old new k n s
+added-made old new k n s added = record { keeps = added.keeps; number = added.number; square = added.square }
+
+-- the row of an empty square
+pub made-empty : (rows : List SquareRow) (k : ℕ) (kids : List ℕ) → AreRows rows → length rows < 2 ^ 32 → 1 ≤ k → kids ≡ 0 ∷ 0 ∷ 0 ∷ 0 ∷ [] → IsMade rows rows k 0 (square_of rows (k - 1) kids)
+made-empty rows k kids valid few low empty =
+    let up : suc (k - 1) ≡ k = omega arith in
+    record {
+      keeps = Keeps-none rows valid few;
+      number = zero-IsNumber rows k;
+      square = ap (λ j. square_in rows j 0) (sym up) ∙ (quadrants-none rows (k - 1)).square ∙ ap (square_of rows (k - 1)) (sym empty);
+    }
+
+-- a row that is there
+pub made-before : (rows : List SquareRow) (row : SquareRow) (n : ℕ) → AreRows rows → length rows < 2 ^ 32 → 1 ≤ row.level → IsNamed rows n row → IsMade rows rows row.level n (square_of rows (row.level - 1) row.kids)
+made-before rows row n valid few low is =
+    let up : suc (row.level - 1) ≡ row.level = omega arith in
+    let number = subst (λ j. IsNumber rows j n) up (IsNumber-from rows (row.level - 1) n (λ some. (is.there, ap (λ (r : SquareRow). r.level) is.same ∙ sym up))) in
+    record {
+      keeps = Keeps-none rows valid few;
+      number = number;
+      square =
+          ap (λ j. square_in rows j n) (sym up)
+          ∙ (quadrants-row rows row.level n valid low is.some number).square
+          ∙ ap (λ (r : SquareRow). square_of rows (row.level - 1) r.kids) is.same;
+    }
+
+-- the same square once more, as the root
+pub laid-root : (rows mid new : List SquareRow) (p : Part) (n m : ℕ) (kids : List ℕ) (spans : List Span) → 1 ≤ p.level → IsLaid rows mid p n spans → AreQuadrants mid (p.level - 1) n kids
+    → IsAdded mid new p.level m (square_of mid (p.level - 1) kids) → IsLaid rows new p m spans
+laid-root rows mid new p n m kids spans some laid parts added =
     let up : suc (p.level - 1) ≡ p.level = omega arith in
-    grind (arith, cases_lt, root_level-some, IsNumber-level, nil_from_length)
+    let same : square_in new p.level m ≡ square_in mid p.level n = added.square ∙ sym parts.square ∙ ap (λ j. square_in mid j n) up in
+    record {
+      keeps = Keeps-then rows mid new laid.keeps added.keeps;
+      number = added.number;
+      shows = λ w shows. record { cells = λ i j hi hj. (laid.shows w shows).cells i j hi hj ∙ ap (λ (s : Square). cell_in p.level s i j) (sym same) };
+    }
 
--- the world after cells that the root holds are laid on it
-pub laid-world : (rows new : List SquareRow) (p : Part) (n : ℕ) (cells : List CellSet) → IsRoot rows p → All (λ c. Covers p c.x c.y) cells → IsLaid rows new p n cells → world_of_rows new ≡ lay cells (world_of_rows rows)
-laid-world rows new p n cells root holds laid =
+-- the level of a root that is added
+pub added-level : (mid new : List SquareRow) (k n : ℕ) (s : Square) → 1 ≤ k → IsAdded mid new k n s → root_level new ≡ k
+added-level mid new k n s some added =
+    let up : suc (k - 1) ≡ k = omega arith in
+    (root_added mid new (k - 1) n s (subst (λ j. IsAdded mid new j n s) (sym up) added)).0 ∙ up
+
+-- a cell outside the square isn't one of a span inside
+out_of_reach : (p : Part) (s : Span) (x y : ℤ) → LiesIn p s → (Covers p x y → ⊥) → Holds s x y → ⊥
+out_of_reach p s x y lies out holds = out (record { left = omega (arith, ints); right = omega (arith, ints); top = omega (arith, ints); bottom = omega (arith, ints) })
+
+-- the world after spans that the root holds are drawn on it
+pub laid-world : (rows new : List SquareRow) (p : Part) (n : ℕ) (spans : List Span) → IsRoot rows p → All (LiesIn p) spans → IsLaid rows new p n spans → root_level new ≡ p.level → n ≡ length new
+    → world_of_rows new ≡ drawn spans (world_of_rows rows)
+laid-world rows new p n spans root lies laid level last =
     let w = world_of_rows rows in
-    let level = root-laid rows new p n cells root laid in
     let edge = λ (e : ℤ) (is : e ≡ edge_of (root_level rows)). let at : e ≡ edge_of p.level = is ∙ ap edge_of (sym root.level) in at in
     same_world _ _ (λ x y. elim (in_or_out (2 ^ p.level) p.corner.x p.corner.y x y) [
       | inl h ↦
           let at = offsets (2 ^ p.level) p.corner.x p.corner.y x y h in
           ap₂ (cell (world_of_rows new)) (at.ex ∙ ap (λ e. e +ℤ pos at.i) (edge _ root.x)) (at.ey ∙ ap (λ e. e +ℤ pos at.j) (edge _ root.y))
           ∙ sym (root-cells new p.level at.i at.j laid.keeps.valid level at.hi at.hj)
-          ∙ ap (λ m. cell_in p.level (square_in new p.level m) at.i at.j) (sym (laid.last root.number))
+          ∙ ap (λ m. cell_in p.level (square_in new p.level m) at.i at.j) (sym last)
           ∙ sym ((laid.shows w root.shows).cells at.i at.j at.hi at.hj)
-          ∙ ap₂ (cell (lay cells w)) (sym at.ex) (sym at.ey)
-      | inr out ↦ grind (arith, world-outside, moved, lay-outside, root-outside)
+          ∙ ap₂ (cell (drawn spans w)) (sym at.ex) (sym at.ey)
+      | inr out ↦
+          let apart = drawn-outside spans w x y (λ i d below. out_of_reach p (get_or spans i d) x y (lies i d below) out) in
+          grind (arith, world-outside, moved, root-outside)
     ])

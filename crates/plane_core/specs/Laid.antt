@@ -1,15 +1,14 @@
--- Rows that come behind others, and cells that are laid on the squares of rows.
-use Rattle.std.specs.Prelude.{◌≡◌, ℕ, zero, suc, ◌-◌, ◌<◌, ◌≤◌, ◌^◌, ◌==◌, cond, List, ◌++◌, length, get_or, All, ℤ, pos, ◌+ℤ◌}
+-- Rows that come behind others, and spans that are drawn on the squares of rows.
+use Rattle.std.specs.Prelude.{◌≡◌, ℕ, suc, ◌-◌, ◌<◌, ◌≤◌, ◌^◌, List, ◌++◌, length, get_or, All, ℤ, pos, ◌+ℤ◌, ◌≤ℤ◌, ◌<ℤ◌}
 use Rattle.std.specs.List.{flat_map}
 use Rattle.std.specs.Borrow.{Bor}
-use Rattle.worlds.specs.declared.cell.CellSet.{CellSet}
 use Rattle.worlds.specs.World.{World, cell}
-use Rattle.worlds.specs.Lay.{lay}
 use Rattle.worlds.specs.Square.{Square, four, IsIn}
 use Rattle.plane_core.specs.declared.row.SquareRow.{SquareRow}
 use Rattle.plane_core.specs.declared.part.Part.{Part}
-use Rattle.plane_core.specs.declared.lay.Parts.{Parts}
-use Rattle.plane_core.specs.Rows.{IsNumber, AreRows, square_in, root_level, world_of_rows}
+use Rattle.plane_core.specs.declared.span.Span.{Span}
+use Rattle.plane_core.specs.Rows.{IsNumber, AreRows, row_at, square_in, root_level, world_of_rows}
+use Rattle.plane_core.specs.Spans.{CanBeDrawn, drawn}
 use Rattle.plane_core.specs.Part.{Covers, IsRoot, Shows, east, south}
 
 -- the square whose quadrants these numbers name
@@ -67,44 +66,54 @@ quadrant_of p q n =
 abbrev pub renumbered : Part → ℕ → Part
 renumbered p n = record { level = p.level; number = n; corner = p.corner }
 
--- a cell of the square, with a state below 256
-abbrev pub IsCellOf : Part → CellSet → Type 0
-IsCellOf p c = Covers p c.x c.y × (c.state < 256)
+-- the square holds a cell of the span
+pub record Touches (p : Part) (s : Span) : Type 0 where
+  pub top : p.corner.y ≤ℤ s.y
+  pub bottom : s.y <ℤ (p.corner.y +ℤ pos (2 ^ p.level))
+  pub left : s.x <ℤ (p.corner.x +ℤ pos (2 ^ p.level))
+  pub right : p.corner.x <ℤ (s.x +ℤ pos s.count)
 
--- those of the cells that lie in the square: there they do to each world what all of them do
-pub record AreThoseIn (p : Part) (cells here : List CellSet) : Type 0 where
-  pub inside : All (IsCellOf p) here
-  pub same : (w : World) (x y : ℤ) → Covers p x y → cell (lay here w) x y ≡ cell (lay cells w) x y
+-- all cells of the span lie in the square
+pub record LiesIn (p : Part) (s : Span) : Type 0 where
+  pub top : p.corner.y ≤ℤ s.y
+  pub bottom : s.y <ℤ (p.corner.y +ℤ pos (2 ^ p.level))
+  pub left : p.corner.x ≤ℤ s.x
+  pub right : (s.x +ℤ pos s.count) ≤ℤ (p.corner.x +ℤ pos (2 ^ p.level))
 
--- the cells of runs, one run after another
-abbrev pub cells_of_runs : List (Bor (List CellSet)) → List CellSet
-cells_of_runs = flat_map (λ run. run.now)
+-- those of the spans that touch the square: in it they do to each world what all of them do
+pub record AreThoseIn (p : Part) (spans here : List Span) : Type 0 where
+  pub range : All CanBeDrawn here
+  pub same : (w : World) (x y : ℤ) → Covers p x y
+      → cell (drawn here w) x y ≡ cell (drawn spans w) x y
 
--- the cells on the list of a quadrant
-abbrev pub list_of : Parts → ℕ → List CellSet
-list_of parts zero = cells_of_runs parts.nw.items
-list_of parts (suc zero) = cells_of_runs parts.ne.items
-list_of parts (suc (suc zero)) = cells_of_runs parts.sw.items
-list_of parts (suc (suc (suc q))) = cells_of_runs parts.se.items
+-- the spans of runs, one run after another
+abbrev pub spans_of_runs : List (Bor (List Span)) → List Span
+spans_of_runs = flat_map (λ run. run.now)
 
--- the cells by the quadrants of the square
-abbrev pub AreParted : Part → List CellSet → Parts → Type 0
-AreParted p cells parts =
-    (q : ℕ) → q < 4 → AreThoseIn (quadrant_of p q 0) cells (list_of parts q)
+-- those of a run that touch the square come behind those of the spans before it
+abbrev pub AddsTouching : Part → List Span → List (Bor (List Span)) → List (Bor (List Span)) → Type 0
+AddsTouching p run old new =
+    (before : List Span) → AreThoseIn p before (spans_of_runs old)
+    → AreThoseIn p (before ++ run) (spans_of_runs new)
 
--- cells are put behind those on the list of a quadrant
-abbrev pub IsPut : ℕ → List CellSet → Parts → Parts → Type 0
-IsPut q run old new =
-    (r : ℕ) → r < 4
-    → list_of new r ≡ cond (r == q) (list_of old r ++ run) (list_of old r)
+-- n names the square s of level k among the new rows
+pub record IsMade (old new : List SquareRow) (k n : ℕ) (s : Square) : Type 0 where
+  pub keeps : Keeps old new
+  pub number : IsNumber new k n
+  pub square : square_in new k n ≡ s
 
--- n names the square that p becomes when the cells are laid on it
-pub record IsLaid (old new : List SquareRow) (p : Part) (n : ℕ) (cells : List CellSet)
+-- n is the number of that row
+pub record IsNamed (rows : List SquareRow) (n : ℕ) (row : SquareRow) : Type 0 where
+  pub some : 0 < n
+  pub there : n ≤ length rows
+  pub same : row_at rows n ≡ row
+
+-- n names the square that p becomes when the spans are drawn on it
+pub record IsLaid (old new : List SquareRow) (p : Part) (n : ℕ) (spans : List Span)
     : Type 0 where
   pub keeps : Keeps old new
   pub number : IsNumber new p.level n
-  pub shows : (w : World) → Shows w old p → Shows (lay cells w) new (renumbered p n)
-  pub last : p.number ≡ length old → n ≡ length new
+  pub shows : (w : World) → Shows w old p → Shows (drawn spans w) new (renumbered p n)
 
 -- the states of the cells of a square of level 1 in a world
 abbrev pub AreStatesOf : World → Part → List ℕ → Type 0
@@ -112,12 +121,11 @@ AreStatesOf w p states =
     (q : ℕ) → q < 4
     → cell w (quadrant_of p q 0).corner.x (quadrant_of p q 0).corner.y ≡ get_or states q 0
 
--- the states of the cells of a square of level 1, and those after the cells are laid on it
-pub record AreLaidStates (p : Part) (cells : List CellSet) (old new : List ℕ) : Type 0 where
-  pub count : length new ≡ length old
+-- the states of the cells of a square of level 1, and those after the spans are drawn on it
+pub record AreLaidStates (p : Part) (spans : List Span) (old new : List ℕ) : Type 0 where
   pub small : (q : ℕ) → q < 4 → get_or new q 0 < 256
-  pub each : (w : World) → AreStatesOf w p old → AreStatesOf (lay cells w) p new
+  pub each : (w : World) → AreStatesOf w p old → AreStatesOf (drawn spans w) p new
 
--- each of the cells lies in the square of the root
-abbrev pub RootHolds : List SquareRow → List CellSet → Type 0
-RootHolds rows cells = (p : Part) → IsRoot rows p → All (λ c. Covers p c.x c.y) cells
+-- each of the spans lies in the square of the root
+abbrev pub RootHolds : List SquareRow → List Span → Type 0
+RootHolds rows spans = (p : Part) → IsRoot rows p → All (LiesIn p) spans

@@ -1,4 +1,5 @@
 pub mod Rows
+pub mod Spans
 pub mod Part
 pub mod Walks
 pub mod Centre

@@ -9,7 +9,7 @@
 //! a smaller root does, and measures them in one more pass, so that `population`, `greatest` and
 //! `bounds` are there. `get` is one descent of at most 62 levels, and `equals` compares rows. `lay`
 //! adds a row for each square that holds a laid cell, at most 62 a cell, and makes the rows canonical
-//! again; `from_cells` lets the list of cells go before that. `cells_within` descends to each live cell
+//! again. `from_spans` takes cells side by side at once, and lets their list go before that. `cells_within` descends to each live cell
 //! in its box once, `live` sorts what it finds without one, and `counts` takes one pass over the rows
 //! from the root down.
 //!
@@ -30,6 +30,7 @@ mod part;
 mod plane;
 mod raise;
 mod row;
+mod span;
 mod valid;
 mod walk;
 mod within;
@@ -38,5 +39,6 @@ pub use laws::{empty_world_has_one_row, worlds_have_one_list_of_rows, worlds_hav
 pub use loaded::Loaded;
 pub use plane::Plane;
 pub use row::SquareRow;
+pub use span::Span;
 pub use valid::are_rows;
 pub use worlds::{Around, Ask, Bounds, Cell, CellSet, Next, NoStop, Stop};

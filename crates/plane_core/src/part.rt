@@ -70,7 +70,7 @@ fn south(half: u64, q: usize) -> u64
 }
 
 // Whether a coordinate is one of so many from the start on.
-fn spans(start: i64, far: u64, z: i64) -> bool
+pub fn spans(start: i64, far: u64, z: i64) -> bool
     requires { IsFrom start far }
     ensures { IsTrue result ↔ ((start ≤ℤ z) × (z <ℤ (start +ℤ pos far))) }
 {
@@ -139,6 +139,19 @@ impl Part {
         rows[self.number as usize - 1].kids[q]
     }
 
+    // The upper left cell of a quadrant.
+    pub fn quadrant_corner(self, q: usize) -> Spot
+        requires { IsOnPlane self × (1 ≤ self.level) × (q < 4) }
+        ensures x { result.x ≡ self.corner.x +ℤ pos (east (2 ^ (self.level - 1)) q) }
+        ensures y { result.y ≡ self.corner.y +ℤ pos (south (2 ^ (self.level - 1)) q) }
+    {
+        let half = side(self.level - 1);
+        Spot {
+            x: self.corner.x + east(half, q) as i64,
+            y: self.corner.y + south(half, q) as i64,
+        }
+    }
+
     // A quadrant.
     pub fn quadrant(self, rows: &[SquareRow], q: usize) -> Part
         requires { IsPart rows.now self × (1 ≤ self.level) × (q < 4) }
@@ -146,15 +159,10 @@ impl Part {
         ensures place { IsQuadrant q self result }
         ensures cells { (w : World) → Shows w rows.now self → Shows w rows.now result }
     {
-        let half = side(self.level - 1);
-        let Spot { x, y } = self.corner;
         Part {
             level: self.level - 1,
             number: self.kid(rows, q),
-            corner: Spot {
-                x: x + east(half, q) as i64,
-                y: y + south(half, q) as i64,
-            },
+            corner: self.quadrant_corner(q),
         }
     }
 }

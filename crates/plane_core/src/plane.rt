@@ -5,6 +5,7 @@ ghost use Rattle.worlds.specs.Lay.{lay};
 ghost use Rattle.worlds.specs.Live.{count_of, live, of_cell, population};
 ghost use Rattle.worlds.specs.Range.{CanBeLaid, HasMargin, IsBoundingBox, IsGreatest, IsInside};
 ghost use Rattle.plane_core.specs.Rows.{AreRows, AreSquaresOf, world_of_rows};
+ghost use Rattle.plane_core.specs.Spans.{CanBeDrawn, cells_of_spans};
 ghost use Rattle.plane_core.specs.Walks.{AreWalked};
 ghost use Rattle.plane_core.specs.Within.{AreLiveWithin};
 
@@ -16,6 +17,7 @@ use crate::live::live_cells;
 use crate::measures::{Measures, measured, no_measures};
 use crate::part::Spot;
 use crate::row::SquareRow;
+use crate::span::{Span, spans_of};
 use crate::walk::walked;
 use crate::within::live_within;
 use std::alloc::{AllocError, Global};
@@ -117,19 +119,20 @@ impl Plane {
         ensures { IfOk result (λ plane. plane ≡ lay cells.now self.now) }
     {
         let mut rows = self.rows.to_vec(self.alloc)?;
-        lay_rows(self.alloc, &mut rows, cells)?;
+        lay_rows(self.alloc, &mut rows, &spans_of(self.alloc, cells)?)?;
         Plane::from_squares(self.alloc, &rows)
     }
 
-    /// The plane with these cells alone, which are set in turn. The list is let go before the rows
-    /// of the plane are made, so both are never in memory together.
-    pub fn from_cells(alloc: Global, cells: Vec<CellSet>) -> Result<Plane, AllocError>
-        requires { All CanBeLaid cells.items }
-        ensures { IfOk result (λ plane. plane ≡ lay cells.items blank) }
+    /// The plane with the cells of these spans alone, which are drawn in turn, so that the last
+    /// mention of a cell wins. The list is let go before the rows of the plane are made, so both are
+    /// never in memory together.
+    pub fn from_spans(alloc: Global, spans: Vec<Span>) -> Result<Plane, AllocError>
+        requires { All CanBeDrawn spans.items }
+        ensures { IfOk result (λ plane. plane ≡ lay (cells_of_spans spans.items) blank) }
     {
         let mut rows = Vec::new(alloc);
-        lay_rows(alloc, &mut rows, &cells)?;
-        drop(cells);
+        lay_rows(alloc, &mut rows, &spans)?;
+        drop(spans);
         Plane::from_squares(alloc, &rows)
     }
 

@@ -1,8 +1,9 @@
 //! Whether cells and planes keep the limits that calls ask for.
 ghost use Rattle.std.specs.Prelude.{◌<◌, ◌↔◌, All, IsTrue};
 ghost use Rattle.worlds.specs.Range.{AllBelow, CanBeLaid};
+ghost use Rattle.plane_core.specs.Spans.{CanBeDrawn};
 
-use plane_core::{CellSet, Plane};
+use plane_core::{CellSet, Plane, Span};
 
 const EDGE: i64 = 1 << 61;
 
@@ -18,6 +19,24 @@ pub fn all_can_be_laid(cells: &[CellSet]) -> bool
     ensures { IsTrue result ↔ All CanBeLaid cells.now }
 {
     cells.iter().all(|cell| can_be_laid(cell))
+}
+
+/// Whether a plane can have the cells of the span.
+pub fn can_be_drawn(span: &Span) -> bool
+    ensures { IsTrue result ↔ CanBeDrawn span.now }
+{
+    -EDGE <= span.x
+        && span.x <= EDGE - i64::from(span.count)
+        && -EDGE <= span.y
+        && span.y < EDGE
+        && span.state < 256
+}
+
+/// Whether a plane can have the cells of each of the spans.
+pub fn all_can_be_drawn(spans: &[Span]) -> bool
+    ensures { IsTrue result ↔ All CanBeDrawn spans.now }
+{
+    spans.iter().all(|span| can_be_drawn(span))
 }
 
 /// Whether each state of the plane is below this one.

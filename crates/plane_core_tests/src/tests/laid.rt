@@ -1,9 +1,9 @@
 //! Cells that are laid on planes, and what planes tell of them.
 use super::{EDGE, plane_of, same};
-use plane_core::{Bounds, Cell, Plane};
+use plane_core::{Bounds, Cell, Plane, Span};
 use std::alloc::Global;
 use std::process::Abort;
-use test_planes::{Row, all_can_be_laid, laid, rows_of, sets_of};
+use test_planes::{Row, all_can_be_drawn, laid, rows_of};
 
 const LAST: i64 = EDGE - 1;
 
@@ -113,20 +113,94 @@ fn lays_cells(rt: HostRuntime) {
     }
 }
 
-/// Stops the test where the plane that is made of the cells isn't the one on which they are laid.
-fn expect_made(rt: &impl Abort, alloc: Global, case: &Laying) {
-    let cells = sets_of(alloc, case.cells).expect(rt, "memory");
-    assert!(rt; all_can_be_laid(&cells), "a row lies outside the plane");
-    let plane = Plane::from_cells(alloc, cells).expect(rt, "memory");
-    let wanted = plane_of(rt, alloc, case.cells);
+/// Spans as x, y, count and state, and the rows of the plane with their cells alone.
+struct Drawing {
+    what: &'static str,
+    spans: &'static [(i64, i64, u32, u16)],
+    rows: &'static [Row],
+}
+
+const DRAWINGS: [Drawing; 8] = [
+    Drawing {
+        what: "no span",
+        spans: &[],
+        rows: &[],
+    },
+    Drawing {
+        what: "a span of no cell",
+        spans: &[(5, 5, 0, 1)],
+        rows: &[],
+    },
+    Drawing {
+        what: "a span across the middle",
+        spans: &[(-3, 0, 5, 2)],
+        rows: &[(-3, 0, 2), (-2, 0, 2), (-1, 0, 2), (0, 0, 2), (1, 0, 2)],
+    },
+    Drawing {
+        what: "the last span over a cell wins",
+        spans: &[(0, -7, 5, 1), (2, -7, 2, 3), (3, -7, 1, 4)],
+        rows: &[(0, -7, 1), (1, -7, 1), (2, -7, 3), (3, -7, 4), (4, -7, 1)],
+    },
+    Drawing {
+        what: "a span of state 0 takes cells away",
+        spans: &[(-2, -1, 4, 255), (-1, -1, 2, 0)],
+        rows: &[(-2, -1, 255), (1, -1, 255)],
+    },
+    Drawing {
+        what: "spans at the edges of the plane",
+        spans: &[(LAST - 1, LAST, 2, 9), (-EDGE, -EDGE, 2, 7)],
+        rows: &[
+            (-EDGE, -EDGE, 7),
+            (-EDGE + 1, -EDGE, 7),
+            (LAST - 1, LAST, 9),
+            (LAST, LAST, 9),
+        ],
+    },
+    Drawing {
+        what: "equal squares apart",
+        spans: &[(0, 0, 2, 1), (64, 0, 2, 1), (0, 64, 2, 1), (64, 65, 2, 1)],
+        rows: &[
+            (0, 0, 1),
+            (1, 0, 1),
+            (64, 0, 1),
+            (65, 0, 1),
+            (0, 64, 1),
+            (1, 64, 1),
+            (64, 65, 1),
+            (65, 65, 1),
+        ],
+    },
+    Drawing {
+        what: "one span by others, in the same row and the next",
+        spans: &[(0, 1, 1, 1), (1, 1, 1, 2), (0, 2, 1, 3), (-1, 1, 1, 4)],
+        rows: &[(-1, 1, 4), (0, 1, 1), (1, 1, 2), (0, 2, 3)],
+    },
+];
+
+/// Stops the test where the plane that is made of the spans hasn't these rows.
+fn expect_drawn(rt: &impl Abort, alloc: Global, case: &Drawing) {
+    let mut spans = Vec::new(alloc);
+    for (x, y, count, state) in case.spans {
+        let span = Span {
+            x: *x,
+            y: *y,
+            count: *count,
+            state: *state,
+        };
+        spans.push(span).expect(rt, "memory");
+    }
+    assert!(rt; all_can_be_drawn(&spans), "a span lies outside the plane");
+    let plane = Plane::from_spans(alloc, spans).expect(rt, "memory");
+    expect_rows(rt, alloc, &plane, case.rows, case.what);
+    let wanted = plane_of(rt, alloc, case.rows);
     same(rt, &plane.equals(&wanted), &true, &case.what);
 }
 
 #[test]
-fn makes_planes_of_cells(rt: HostRuntime) {
+fn makes_planes_of_spans(rt: HostRuntime) {
     let alloc = rt.alloc();
-    for case in &LAYINGS {
-        expect_made(&rt, alloc, case);
+    for case in &DRAWINGS {
+        expect_drawn(&rt, alloc, case);
     }
 }
 

@@ -1,7 +1,7 @@
 use Rattle.std.proofs.Common.{ℕ, ◌<◌, get_or}
-use Rattle.worlds.specs.declared.cell.CellSet.{CellSet}
-use Rattle.plane_core.specs.Part.{Covers}
+use Rattle.plane_core.specs.declared.span.Span.{Span}
+use Rattle.plane_core.specs.Laid.{LiesIn}
 use Rattle.plane_core.proofs.lay.are_in.Given as goal
 
-abbrev pub invariant-loop-cell : goal.invariant-loop-cell
-invariant-loop-cell l = (k : ℕ) (d : CellSet) → k < l.cell-index → Covers l.part (get_or l.cells k d).x (get_or l.cells k d).y
+abbrev pub invariant-loop-span : goal.invariant-loop-span
+invariant-loop-span l = (k : ℕ) (d : Span) → k < l.span-index → LiesIn l.part (get_or l.spans k d)

@@ -1,6 +1,6 @@
 use Rattle.std.proofs.Common.{take}
-use Rattle.plane_core.specs.Laid.{AreLaidStates, cells_of_runs}
+use Rattle.plane_core.specs.Laid.{AreLaidStates, spans_of_runs}
 use Rattle.plane_core.proofs.lay.laid_runs.Given as goal
 
 abbrev pub invariant-loop-run : goal.invariant-loop-run
-invariant-loop-run l = AreLaidStates l.part (cells_of_runs (take l.run-index l.runs)) l.fn.states l.laid
+invariant-loop-run l = AreLaidStates l.part (spans_of_runs (take l.run-index l.runs)) l.fn.states l.laid

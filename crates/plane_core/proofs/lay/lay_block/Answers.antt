@@ -1,7 +1,7 @@
 use Rattle.std.proofs.Common.{List, get_or, subst, arith}
 use Rattle.std.proofs.lemmas.Result.{IfOk-weaker}
 use Rattle.plane_core.specs.declared.row.SquareRow.{SquareRow}
-use Rattle.plane_core.specs.Laid.{AreQuadrants, cells_of_runs}
+use Rattle.plane_core.specs.Laid.{AreQuadrants, spans_of_runs}
 use Rattle.plane_core.proofs.Laying.{laid-block}
 use Rattle.plane_core.proofs.Shared.Sound.{IsNumber-state, state-IsNumber}
 use Rattle.plane_core.proofs.lay.lay_block.Goals as goal
@@ -9,14 +9,14 @@ use Rattle.plane_core.proofs.lay.lay_block.Goals as goal
 pub laid_runs-requires-clause-states : goal.laid_runs-requires-clause-states
 laid_runs-requires-clause-states c = λ q hq. state-IsNumber c.deref.result.now (get_or c.quadrants-states.result q 0) (c.quadrants-states.ensures.numbers q hq)
 
-pub push_row-requires-clause-row : goal.push_row-requires-clause-row
-push_row-requires-clause-row c = grind (arith, IsNumber-state)
+pub made-requires-clause-row : goal.made-requires-clause-row
+made-requires-clause-row c = grind (arith, IsNumber-state)
 
 pub returns : goal.returns
 returns c =
     let rows = c.args.rows.now.items in
     let p = c.args.part in
     let parts : AreQuadrants rows 0 p.number c.quadrants-states.result = subst (λ (rs : List SquareRow). AreQuadrants rs 0 p.number c.quadrants-states.result) c.deref.ensures.value c.quadrants-states.ensures in
-    IfOk-weaker c.push_row.result _ _ (λ n added.
-    laid-block rows c.push_row.new.rows.items p c.quadrants-states.result c.laid_runs.result n (cells_of_runs c.args.runs.now) c.requires.square.0 c.requires.square.1 c.requires.few parts c.laid_runs.ensures added)
-    c.push_row.ensures
+    IfOk-weaker c.made.result _ _ (λ n is.
+    laid-block rows c.made.new.rows.items p c.quadrants-states.result c.laid_runs.result n (spans_of_runs c.args.runs.now) c.requires.square.0 c.requires.square.1 c.requires.few parts c.laid_runs.ensures is)
+    c.made.ensures

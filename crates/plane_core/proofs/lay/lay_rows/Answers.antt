@@ -1,20 +1,20 @@
 use Rattle.std.proofs.Common.{◌∙◌, List, sym, ap, subst}
 use Rattle.std.specs.Prelude.{All}
 use Rattle.std.proofs.lemmas.List.Elements.{All-drop}
-use Rattle.worlds.specs.declared.cell.CellSet.{CellSet}
-use Rattle.worlds.specs.Range.{CanBeLaid}
-use Rattle.worlds.specs.Lay.{lay, lay-append}
+use Rattle.plane_core.specs.declared.span.Span.{Span}
 use Rattle.plane_core.specs.Rows.{world_of_rows}
+use Rattle.plane_core.specs.Spans.{CanBeDrawn, drawn}
+use Rattle.plane_core.proofs.Laying.{drawn-append}
 use Rattle.plane_core.proofs.lay.lay_rows.Goals as goal
 
 pub loop-rest-preserved : goal.loop-rest-preserved
 loop-rest-preserved c =
     let w = world_of_rows c.loop-rest.rows.items in
-    let rest : List CellSet = c.loop-rest.rest.now in
-    let batch : List CellSet = c.split_at.result.0.now in
-    let more : List CellSet = c.split_at.result.1.now in
+    let rest : List Span = c.loop-rest.rest.now in
+    let batch : List Span = c.split_at.result.0.now in
+    let more : List Span = c.split_at.result.1.now in
     let before = c.loop-rest.invariant in
-    let can : All CanBeLaid more = subst (All CanBeLaid) (sym c.split_at.ensures.back) (All-drop CanBeLaid 65536 rest before.2) in
+    let can : All CanBeDrawn more = subst (All CanBeDrawn) (sym c.split_at.ensures.back) (All-drop CanBeDrawn 65536 rest before.2) in
     let laid = c.in_ok-lay_batch.ensures in
     let thin = c.in_ok-most.ensures in
-    (thin.rows.0, thin.rows.1, can, ap (lay more) (thin.world ∙ laid.world) ∙ sym (lay-append batch more w) ∙ ap (λ (cs : List CellSet). lay cs w) (sym c.split_at.ensures.by_index.0) ∙ before.3)
+    (thin.rows.0, thin.rows.1, can, ap (drawn more) (thin.world ∙ laid.world) ∙ sym (drawn-append batch more w) ∙ ap (λ (ss : List Span). drawn ss w) (sym c.split_at.ensures.by_index.0) ∙ before.3)

@@ -1,11 +1,10 @@
 use Rattle.std.proofs.Common.{◌≡◌, ◌<◌, ◌^◌, length, All}
-use Rattle.worlds.specs.Lay.{lay}
-use Rattle.worlds.specs.Range.{CanBeLaid}
 use Rattle.plane_core.specs.Rows.{AreRows, world_of_rows}
+use Rattle.plane_core.specs.Spans.{CanBeDrawn, drawn}
 use Rattle.plane_core.proofs.lay.lay_rows.Given as goal
 
 abbrev pub invariant-loop-rest : goal.invariant-loop-rest
-invariant-loop-rest l = AreRows l.rows.items × (length l.rows.items < 2 ^ 32) × All CanBeLaid l.rest × (lay l.rest (world_of_rows l.rows.items) ≡ lay l.cells (world_of_rows l.fn.rows.items))
+invariant-loop-rest l = AreRows l.rows.items × (length l.rows.items < 2 ^ 32) × All CanBeDrawn l.rest × (drawn l.rest (world_of_rows l.rows.items) ≡ drawn l.spans (world_of_rows l.fn.rows.items))
 
 abbrev pub decreases-loop-rest : goal.decreases-loop-rest
 decreases-loop-rest l = length l.rest

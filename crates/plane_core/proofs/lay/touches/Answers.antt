@@ -1,0 +1,14 @@
+use Rattle.std.proofs.Common.{◌≡◌, ◌^◌, arith, rules}
+use Rattle.std.proofs.lemmas.Int.{ints}
+use Rattle.plane_core.proofs.lay.touches.Goals as goal
+
+pub returns : goal.returns
+returns c =
+    let down = c.spans.ensures.0 (search rules) in
+    let size : c.side.result ≡ 2 ^ c.args.part.level = c.side.ensures.value in
+    let end = c.end_of.ensures in
+    let right = c.right_of.ensures in
+    let not = c.if-span-right_of.false in (
+      λ t. record { top = search (rules, down.0); bottom = omega (arith, ints); left = grind (arith, ints); right = grind (arith, ints) },
+      λ h. grind (arith, ints),
+    )
