@@ -7,4 +7,5 @@ pub mod Asks
 pub mod Heard
 pub mod Parts
 pub mod Scripted
+pub mod Listed
 pub mod ReadsBack

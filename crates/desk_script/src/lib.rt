@@ -5,7 +5,8 @@
 //! Where memory ran out, what was asked is something for which that can happen.
 //!
 //! `script_of` writes a document as the script that makes it anew. The line of each edit in it asks
-//! for this edit.
+//! for this edit. `tell_branches`, `tell_interventions` and `tell_bookmark` write the lines that list what
+//! a document has.
 //!
 //! It has no desk, and answers nothing. A line is kept only as far as its command needs; all is in
 //! proportion to what is read and written.
@@ -19,6 +20,7 @@ mod format;
 mod heard;
 mod interventions;
 mod laws;
+mod listed;
 mod part;
 mod request;
 mod rule_text;
@@ -31,6 +33,7 @@ pub use fault::ScriptFault;
 pub use format::Format;
 pub use heard::{Heard, listen};
 pub use laws::edit_lines_read_back;
+pub use listed::{tell_bookmark, tell_branches, tell_interventions};
 pub use part::{Part, push_parts, tell_parts};
 pub use request::Request;
 pub use rule_text::RuleText;

@@ -2,37 +2,13 @@
 use Rattle.std.proofs.Common.{◌≡◌, ℕ, List, [], ◌∷◌, ◌++◌, Option, map, length, refl, ap, append_assoc, codes, arith}
 use Rattle.std.specs.Prelude.{decimal, flat_map, is_some}
 use Rattle.std.specs.Option.{option_map}
-use Rattle.schedule.specs.declared.acts.Acts.TheVariants.{Once, Every}
 use Rattle.schedule.specs.declared.document.Intervention.{Intervention}
 use Rattle.schedule.specs.declared.document.Bookmark.{Bookmark}
 use Rattle.dependency_book.specs.BookState.{BookState}
 use Rattle.dependency_book.specs.ShownRows.{shown_row, shown_rows}
 use Rattle.schedule.specs.declared.branch.Branch.{Branch}
-use Rattle.desk_server.specs.Listed.{bookmark_line, branch_line, intervention_line, lines_of, listed_text}
+use Rattle.desk_script.specs.Listed.{bookmark_line, branch_line, intervention_line, lines_of, listed_text}
 use Rattle.desk_server.specs.Told.{has_text, row_line}
-
--- an intervention that acts once
-pub once-line : (i : Intervention) (generation n : ℕ) → i.acts ≡ Once generation → n ≡ length i.cells
-    → codes "intervention "
-    ++ (decimal i.id
-    ++ (codes " on "
-    ++ (decimal i.branch
-    ++ (codes " at " ++ (decimal generation ++ (codes " cells " ++ (decimal n ++ codes "\n")))))))
-    ≡ intervention_line i
-once-line i generation n acts count = grind (arith)
-
--- one that repeats
-pub every-line : (i : Intervention) (first every last n : ℕ) → i.acts ≡ Every first every last → n ≡ length i.cells
-    → codes "intervention "
-    ++ (decimal i.id
-    ++ (codes " on "
-    ++ (decimal i.branch
-    ++ (codes " every "
-    ++ (decimal every
-    ++ (codes " "
-    ++ (decimal first ++ (codes " " ++ (decimal last ++ (codes " cells " ++ (decimal n ++ codes "\n")))))))))))
-    ≡ intervention_line i
-every-line i first every last n acts count = grind (arith, append_assoc)
 
 -- a bookmark with its text, if it has one
 pub row-line : {T : Type 0} (b : Bookmark) (text : T → List ℕ) (o : Option T)

@@ -4,7 +4,6 @@ pub mod Shortage
 pub mod Answer
 pub mod Script
 pub mod Jobs
-pub mod Listed
 pub mod Told
 pub mod Served
 pub mod Run

@@ -17,7 +17,7 @@ use Rattle.desk_server.specs.declared.reply.Reply.{Reply}
 use Rattle.desk_server.specs.declared.reply.Reply.TheVariants as reply
 use Rattle.desk_server.specs.Jobs.{IsDoneWith}
 use Rattle.desk_server.specs.Faults.{fault_of, of_edit}
-use Rattle.desk_server.specs.Listed.{bookmark_line, listed_text}
+use Rattle.desk_script.specs.Listed.{bookmark_line, listed_text}
 use Rattle.desk_server.specs.Reply.{scripted_text, accepted_text, settled_text, working_text, unsettled_text, polled_text, current_text, pending_text, refused_text, bye_text}
 
 -- a bookmark that is shown: no such one, or without or with its text

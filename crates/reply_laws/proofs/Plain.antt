@@ -12,7 +12,7 @@ use Rattle.desk_script.specs.declared.fault.ScriptFault.TheVariants.{BadCommand,
 use Rattle.desk_script.specs.declared.command.Command.{Command}
 use Rattle.desk_script.specs.declared.command.Command.TheVariants as command
 use Rattle.desk_server.specs.Reply.{unsettled_text, settled_text, polled_text}
-use Rattle.desk_server.specs.Listed.{bookmark_line, branch_line, intervention_line, lines_of, listed_text}
+use Rattle.desk_script.specs.Listed.{bookmark_line, branch_line, intervention_line, lines_of, listed_text}
 use Rattle.desk_server.specs.Shortage.{Shortage, NoShortage, Unsettled, Known, IsCaused, IsCausedOver, AllCausedOver}
 use Rattle.desk_server.specs.Answer.{After, Session, answer, only, unless_memory, edited, settled, polled, listed, shown, scripted, obeyed, session_after}
 use Rattle.desk_server.specs.Script.{first_shortage, later_shortages, afters}

@@ -1,7 +1,7 @@
 use Rattle.std.proofs.Common.{subst, rules}
 use Rattle.script_lines.specs.Faults.{Wrote}
-use Rattle.desk_server.proofs.Lines.{every-line, once-line}
-use Rattle.desk_server.proofs.listing.tell_intervention.Goals as goal
+use Rattle.desk_script.proofs.Listing.{every-line, once-line}
+use Rattle.desk_script.proofs.listed.tell_intervention.Goals as goal
 
 pub returns-in-Once-clause-bytes : goal.returns-in-Once-clause-bytes
 returns-in-Once-clause-bytes g c =

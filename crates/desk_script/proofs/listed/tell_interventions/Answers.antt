@@ -3,8 +3,8 @@ use Rattle.std.specs.Io.KnownBytes.{Appends}
 use Rattle.script_lines.specs.Faults.{AppendsFront}
 use Rattle.script_lines.proofs.Shared.Told.{wrote_err}
 use Rattle.desk_script.proofs.Shared.Parts.{parts_more, parts_broken}
-use Rattle.desk_server.specs.Listed.{intervention_line}
-use Rattle.desk_server.proofs.listing.tell_interventions.Goals as goal
+use Rattle.desk_script.specs.Listed.{intervention_line}
+use Rattle.desk_script.proofs.listed.tell_interventions.Goals as goal
 
 pub returns-in_err-tell_intervention-clause-bytes : goal.returns-in_err-tell_intervention-clause-bytes
 returns-in_err-tell_intervention-clause-bytes g c =
