@@ -6,22 +6,22 @@ use Rattle.std.proofs.lemmas.List.Sums.{sum_by-cons}
 use Rattle.std.specs.Io.Iter.{u64_saturate}
 use Rattle.revision_jobs.specs.Posted.{PostView}
 use Rattle.dependency_book.specs.BookState.{BookState}
-use Rattle.desk_board.specs.Picture.{Picture, IsRight, picture_of}
+use Rattle.desk_board.specs.Picture.{Picture, IsRightPicture, picture_of}
 use Rattle.desk_board.specs.History.{History, ShowsNext, history, and_then}
 use Rattle.schedule.specs.Plan.{Plan}
 use Rattle.desk_core.specs.Looks.{AreOfPlan, LooksAt, LooksAtEach}
 use Rattle.desk_script.specs.Asks.{Ask}
 use Rattle.desk_server.specs.Answer.{After}
-use Rattle.desk_server.specs.Served.{Gives}
+use Rattle.desk_server.specs.Served.{GivesAnswer}
 use Rattle.desk_server.specs.Script.{Answered}
 use Rattle.desk_server.specs.Told.{TellsPending, IsRefused}
-use Rattle.desk_server.specs.Watch.{HasToCompute, WatchesComputing, WatchesReply, Moment, NotesOrCounts, NotesReply, NotesEach}
+use Rattle.desk_server.specs.Watch.{HasToCompute, WatchesComputing, WatchesReply, Moment, PublishedOrCounted, NotesReply, NotesEach}
 use Rattle.board_replies.specs.Showings.{ArePicturesOf, Showing, ShowAnswers, may_compute, pictures_in, is_left_out, ShowsAllUnlessCounted}
 use Rattle.desk_server.specs.declared.reply.Reply.{Reply}
 
 module _ {V : Type 0} (notes : V → BookState → V → Type 0) where
   -- a count doesn't fall
-  count_up : (m n : ℕ) (a b : V) (k : BookState) → m ≤ 2 ^ 64 - 1 → NotesOrCounts notes m n a k b → (m ≤ n) × (n ≤ 2 ^ 64 - 1)
+  count_up : (m n : ℕ) (a b : V) (k : BookState) → m ≤ 2 ^ 64 - 1 → PublishedOrCounted notes m n a k b → (m ≤ n) × (n ≤ 2 ^ 64 - 1)
   count_up m n a b k low h1 = grind (arith)
 
   counts_up : (a b : Moment V) (xs : List Answered) → a.missed ≤ 2 ^ 64 - 1 → NotesEach notes a b xs
@@ -76,7 +76,7 @@ record Shown (one : Answered) (p q : PostView) (old new : History) : Type 0 wher
 cannot : (ask : Ask) (d : BookState) → may_compute ask ≡ false → HasToCompute ask d → ⊥
 cannot ask d idle has = grind (arith)
 
-shown_before : (one : Answered) (r : Reply) (p q : PostView) (d e : BookState) (old new : History) → Gives one.1 r e
+shown_before : (one : Answered) (r : Reply) (p q : PostView) (d e : BookState) (old new : History) → GivesAnswer one.1 r e
     → WatchesReply ShowsNext one.0 r p q d e old new → Shown one p q old new
 shown_before one r p q d e old new gives watched = by watched.looks
   where
@@ -114,13 +114,13 @@ one_if b = cond b 1 0
 
 shows_one : (old next new : Moment History) (watched : History) (x : Answered) (xs : List Answered) (r : Reply)
     → old.missed ≤ 2 ^ 64 - 1 → next.missed ≤ new.missed → Shown x old.post next.post old.seen watched
-    → Gives x.1 r next.desk → TellsPending r next.desk
-    → NotesOrCounts ShowsNext old.missed next.missed watched next.desk next.seen → Shows next new xs
+    → GivesAnswer x.1 r next.desk → TellsPending r next.desk
+    → PublishedOrCounted ShowsNext old.missed next.missed watched next.desk next.seen → Shows next new xs
     → Shows old new (x ∷ xs)
 shows_one old next new watched x xs r low up shown gives pending (inl noted) rest =
     let d = next.desk in
     let s = picture_of d in
-    let right : IsRight s = noted.0.0 in
+    let right : IsRightPicture s = noted.0.0 in
     let is : next.seen ≡ and_then watched s = noted.0.1 in
     let same : next.missed ≡ old.missed = noted.1 in
     let seen = shown.seen in

@@ -5,7 +5,7 @@ use Rattle.std.specs.List.{AllByRecursion}
 use Rattle.dependency_book.specs.BookState.{BookState}
 use Rattle.desk_events.specs.Wanted.{bookmark_in}
 use Rattle.schedule.specs.Plan.{Plan}
-use Rattle.desk_board.specs.Picture.{Picture, IsRight, picture_of}
+use Rattle.desk_board.specs.Picture.{Picture, IsRightPicture, picture_of}
 use Rattle.desk_board.specs.History.{History, ShowsNext, history}
 use Rattle.desk_board.specs.declared.row.ShownRow.{ShownRow}
 use Rattle.desk_script.specs.Asks.{Ask, Obey}
@@ -13,7 +13,7 @@ use Rattle.desk_script.specs.declared.command.Command.TheVariants as command
 use Rattle.desk_server.specs.Answer.{After}
 use Rattle.desk_server.specs.Script.{Answered}
 use Rattle.desk_server.specs.Told.{TellsPending, shown_text}
-use Rattle.desk_server.specs.Served.{Gives}
+use Rattle.desk_server.specs.Served.{GivesAnswer}
 use Rattle.desk_server.specs.Watch.{Moment, NotesEach}
 use Rattle.desk_server.specs.declared.reply.Reply.{Reply}
 use Rattle.desk_server.specs.declared.reply.Reply.TheVariants.{Settled, Shown}
@@ -22,14 +22,14 @@ use Rattle.desk_server.specs.declared.reply.Reply.TheVariants.{Settled, Shown}
 pub record IsPictureAfter (after : After) (s : Picture) : Type 0 where
   pub desk : BookState
   pub reply : Reply
-  pub gives : Gives after reply desk
+  pub gives : GivesAnswer after reply desk
   pub pending : TellsPending reply desk
   pub is : s ≡ picture_of desk
-  pub right : IsRight s
+  pub right : IsRightPicture s
 
 -- pictures of this document, whose texts are right
 abbrev pub ArePicturesOf : Plan → List Picture → Type 0
-ArePicturesOf plan = AllByRecursion (λ (s : Picture). (s.plan ≡ plan) × IsRight s)
+ArePicturesOf plan = AllByRecursion (λ (s : Picture). (s.plan ≡ plan) × IsRightPicture s)
 
 -- what a history shows of one answer: how many answers its post gave for it, pictures that were put
 -- behind the history before, and the picture that was put there after it, unless it was left out

@@ -23,5 +23,5 @@ lies_in_range Rle = true
 lies_in_range Macrocell = true
 
 -- the view keeps both limits
-abbrev pub IsWithin : View → Type 0
-IsWithin view = IsTrue (has_window_size view) × IsTrue (lies_in_range view)
+abbrev pub KeepsViewLimits : View → Type 0
+KeepsViewLimits view = IsTrue (has_window_size view) × IsTrue (lies_in_range view)

@@ -2,7 +2,7 @@
 ghost use Rattle.std.specs.Prelude.{◌≡◌, IfOk};
 ghost use Rattle.worlds.specs.Range.{AllBelow};
 ghost use Rattle.bookmarks.specs.Text.{text_of};
-ghost use Rattle.bookmarks.specs.Within.{IsWithin};
+ghost use Rattle.bookmarks.specs.Within.{KeepsViewLimits};
 
 use crate::counts::counts_text;
 use crate::pattern::pattern_text;
@@ -23,7 +23,7 @@ pub fn render(
     generation: u64,
 ) -> Result<Vec<u8>, AllocError>
     requires below { AllBelow states plane.now }
-    requires within { IsWithin view.now }
+    requires within { KeepsViewLimits view.now }
     ensures { IfOk result
         (λ text. text.items ≡ text_of view.now plane.now name.now states generation) }
 {

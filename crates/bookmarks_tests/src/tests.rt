@@ -1,6 +1,6 @@
 //! Worked texts of views.
 ghost use Rattle.std.specs.Prelude.{IsTrue};
-ghost use Rattle.bookmarks.specs.Within.{IsWithin};
+ghost use Rattle.bookmarks.specs.Within.{KeepsViewLimits};
 
 use bookmarks::{View, render};
 use plane_core::Plane;
@@ -32,7 +32,7 @@ fn same<T: PartialEq + Debug, A: Debug>(rt: &impl Abort, found: &T, wanted: &T, 
 }
 
 fn is_within(view: &View) -> bool
-    ensures { IsTrue result → IsWithin view.now }
+    ensures { IsTrue result → KeepsViewLimits view.now }
 {
     view.has_window_size() && view.lies_in_range()
 }

@@ -7,7 +7,7 @@ use Rattle.worlds.specs.Range.{AllBelow, CanBeLaid, HasMargin}
 use Rattle.worlds.proofs.Shared.Stepped.{HasMargin-less}
 use Rattle.rule_tree.specs.declared.rule.Rule.{Rule}
 use Rattle.rule_tree.specs.Rule.{states_of}
-use Rattle.bookmarks.specs.Within.{IsWithin}
+use Rattle.bookmarks.specs.Within.{KeepsViewLimits}
 use Rattle.schedule.specs.declared.document.Bookmark.{Bookmark}
 use Rattle.schedule.specs.Branches.{fork_of}
 use Rattle.schedule.specs.Plan.{Plan}
@@ -27,7 +27,7 @@ use Rattle.dependency_book.specs.BookState.{BookState, arrival_known}
 use Rattle.desk_events.specs.Wanted.{bookmark_in}
 use Rattle.dependency_book.specs.Entered.{IsEntryOf, StepsTo, ViewsOf}
 use Rattle.desk_events.specs.Marks.{mark_at}
-use Rattle.dependency_book.specs.Right.{IsRight}
+use Rattle.dependency_book.specs.Right.{IsRightBook}
 use Rattle.desk_events.proofs.Shared.Marks.{mark_near}
 use Rattle.desk_events.proofs.Shared.Gives as gives
 use Rattle.desk_events.proofs.Shared.Tests.{either_way}
@@ -35,7 +35,7 @@ use Rattle.desk_events.proofs.Shared.Walk.{before_late}
 use Rattle.dependency_book.specs.Said.{step_said, view_said}
 use Rattle.dependency_book.proofs.Shared.Cores.{known_arrives}
 
-view_after : (d : BookState) (id : ℕ) (r : Rendering) → IsRight d → (h : ViewsOf d id r)
+view_after : (d : BookState) (id : ℕ) (r : Rendering) → IsRightBook d → (h : ViewsOf d id r)
     → world_in r ≡ after d.plan h.bookmark.branch h.bookmark.generation
 view_after d id r right h = gives.view_after d.plan (arrival_known d) id (view_said r) (known_arrives d right)
     h
@@ -46,7 +46,7 @@ cells_laid : (p : Plan) (b g : ℕ) (cells : List CellSet) → IsSound p → cel
     → All CanBeLaid cells
 cells_laid p b g cells sound is = subst (All CanBeLaid) (sym is) (CanBeLaid-at p b g sound)
 
-step_workable : (d : BookState) (m : Mark) (s : Stepping) → IsRight d → StepsTo d m s → CanBeStepped s
+step_workable : (d : BookState) (m : Mark) (s : Stepping) → IsRightBook d → StepsTo d m s → CanBeStepped s
 step_workable d m s right h =
     let sound = right.core.sound in
     let n : Mark = h.before in
@@ -70,16 +70,16 @@ step_workable d m s right h =
     )
 
 each_within : (bs : List Bookmark) (id : ℕ) (b : Bookmark)
-    → AllByRecursion (λ (c : Bookmark). IsWithin c.view) bs
-    → bookmark_in bs id ≡ Some b → IsWithin b.view
+    → AllByRecursion (λ (c : Bookmark). KeepsViewLimits c.view) bs
+    → bookmark_in bs id ≡ Some b → KeepsViewLimits b.view
 each_within [] id b all there = absurd cc
 each_within (c ∷ bs) id b all there =
     either_way (c.id == id)
     (λ hit. let one : Some c ≡ Some b = rw hit at there in let same : c ≡ b = cc in
-    subst (λ (x : Bookmark). IsWithin x.view) same all.0)
+    subst (λ (x : Bookmark). KeepsViewLimits x.view) same all.0)
     (λ miss. each_within bs id b all.1 (rw miss at there))
 
-view_workable : (d : BookState) (id : ℕ) (r : Rendering) → IsRight d → ViewsOf d id r → CanBeRendered r
+view_workable : (d : BookState) (id : ℕ) (r : Rendering) → IsRightBook d → ViewsOf d id r → CanBeRendered r
 view_workable d id r right h =
     let sound = right.core.sound in
     let b = h.bookmark.branch in
@@ -88,11 +88,11 @@ view_workable d id r right h =
       cells_laid d.plan b g r.cells sound h.cells,
       subst (λ n. AllBelow n (world_in r)) (sym h.states)
           (subst (AllBelow (states_of d.plan.rule)) (sym left) (AllBelow-after d.plan b g sound)),
-      subst IsWithin (sym h.view) (each_within d.plan.bookmarks id h.bookmark sound.views_within h.there),
+      subst KeepsViewLimits (sym h.view) (each_within d.plan.bookmarks id h.bookmark sound.views_within h.there),
     )
 
 -- the entry of what is to be computed can be worked
-pub entry_workable : (d : BookState) (need : Need) (e : Entry) → IsRight d → IsEntryOf d need e
+pub entry_workable : (d : BookState) (need : Need) (e : Entry) → IsRightBook d → IsEntryOf d need e
     → CanBeWorked e
 entry_workable d (Step branch mark) (entry.Step s) right h = step_workable d (mark_at branch mark) s right h
 entry_workable d (Step branch mark) (entry.View r) right h = absurd h

@@ -6,7 +6,7 @@ use Rattle.std.proofs.lemmas.Bool.{and_parts}
 use Rattle.desk_events.specs.declared.mark.Mark.{Mark}
 use Rattle.dependency_book.specs.BookState.{BookState, arrival_known}
 use Rattle.desk_events.specs.Wanted.{bookmark_in}
-use Rattle.dependency_book.specs.Held.{IsHeld}
+use Rattle.dependency_book.specs.Held.{IsHeldBook}
 use Rattle.desk_events.specs.Marks.{ComesBefore, bookmark_mark}
 use Rattle.dependency_book.specs.Needs.{IsLedTo, ViewIsNext}
 use Rattle.dependency_book.specs.Ready.{AreHeldBack, before_row, is_ready}
@@ -31,7 +31,7 @@ pub record ViewRow (d : BookState) (id : ℕ) (x : TextRow) : Type 0 where
 pub ready_is : (d : BookState) (m : Mark) → is_ready d.arrivals m ≡ is_some (arrival_known d m)
 ready_is d m = grind arith
 
-module _ {d : BookState} {places : List ℕ} (held : IsHeld d places) where
+module _ {d : BookState} {places : List ℕ} (held : IsHeldBook d places) where
   pub step_row : (m : Mark) → IsLedTo d m → StepRow d m (place_of_mark d m)
   step_row m led =
       let k = place_of_mark d m in

@@ -4,7 +4,7 @@ use Rattle.std.proofs.ByRecursion.{All-map}
 use Rattle.std.specs.List.{AllByRecursion}
 use Rattle.dependency_book.specs.declared.row.Row.{Row}
 use Rattle.dependency_book.specs.BookState.{BookState}
-use Rattle.dependency_book.specs.Held.{IsHeld}
+use Rattle.dependency_book.specs.Held.{IsHeldBook}
 use Rattle.dependency_book.specs.RowState.{known}
 use Rattle.dependency_book.specs.Rows.{TextRow, keys}
 use Rattle.dependency_book.specs.ShownRows.{IsScratch, handed, shown_row, shown_rows}
@@ -18,7 +18,7 @@ by_map : {K V W : Type 0} (f : Row K V → W) (g : K → W) (rows : List (Row K 
 by_map f g [] all = refl
 by_map f g (r ∷ rs) all = ap₂ (λ x xs. x ∷ xs) all.0 (by_map f g rs all.1)
 
-module _ {d : BookState} {places : List ℕ} (held : IsHeld d places) where
+module _ {d : BookState} {places : List ℕ} (held : IsHeldBook d places) where
   pub handed_rows : map handed d.texts ≡ shown_rows d
   handed_rows =
       by_map handed (shown_row d) d.texts

@@ -21,8 +21,8 @@ use Rattle.dependency_book.specs.declared.row.Row.{Row}
 use Rattle.dependency_book.specs.declared.row.RowState.{RowState}
 use Rattle.dependency_book.specs.declared.row.RowState.TheVariants.{Empty}
 use Rattle.desk_events.specs.declared.mark.Mark.{Mark}
-use Rattle.dependency_book.specs.BookState.{BookState, NothingOut, arrival_row, arrival_known, is_pending, pending_of, wanting_of}
-use Rattle.dependency_book.specs.Held.{IsHeld, places_of}
+use Rattle.dependency_book.specs.BookState.{BookState, NothingOut, arrival_row, arrival_known, is_pending, pending_of, empty_rows_of}
+use Rattle.dependency_book.specs.Held.{IsHeldBook, places_of}
 use Rattle.desk_events.specs.Marks.{ComesBefore, bookmark_mark, is_mark, is_start}
 use Rattle.dependency_book.specs.Needs.{CanBeViewed, CanBeReached, IsNotAfter, IsNextStep, IsNextView}
 use Rattle.dependency_book.specs.Ready.{IsFirst, before_row, is_ready, place_ready, viewable, steppable}
@@ -56,7 +56,7 @@ place_at arrivals (r ∷ rs) (suc k) x low = place_at arrivals rs k x (omega (ar
 abbrev has_arrived : BookState → TextRow → Bool
 has_arrived d r = is_some (arrival_known d (bookmark_mark r.key))
 
-module _ {d : BookState} {places : List ℕ} (held : IsHeld d places) where
+module _ {d : BookState} {places : List ℕ} (held : IsHeldBook d places) where
   -- the place of a mark tells whether what arrives there is known
   place_is : (m : Mark) → is_mark d.plan m ≡ true
       → place_ready d.arrivals m (place_of_mark d m) ≡ is_some (arrival_known d m)
@@ -149,7 +149,7 @@ not_after m n near le =
     let same : m.branch ≡ n.branch = omega (arith, le, up) in
     inr (same, omega (arith, le, same, near)))
 
-module _ {d : BookState} {places : List ℕ} (held : IsHeld d places) where
+module _ {d : BookState} {places : List ℕ} (held : IsHeldBook d places) where
   can_be_reached : (k : ℕ) (x : ArrivalRow) → k < length d.arrivals → IsSteppable d k x
       → CanBeReached d (mark_of d.arrivals k x)
   can_be_reached k x low can =
@@ -269,7 +269,7 @@ before_lower p a m sound near (inr precedes) = rank_within a m precedes.branch n
 
 -- where no mark can be reached each is known
 
-module _ {d : BookState} {places : List ℕ} (held : IsHeld d places) where
+module _ {d : BookState} {places : List ℕ} (held : IsHeldBook d places) where
   -- all before a place are
   abbrev KnownBelow : ℕ → Type 0
   KnownBelow n = (k : ℕ) (x : ArrivalRow) → k < n → k < length d.arrivals
@@ -336,7 +336,7 @@ module _ {d : BookState} {places : List ℕ} (held : IsHeld d places) where
       (viewable_is held k x low ∙ rw (hit, all_ready each.arrivals steps k x low) refl))))
       (λ miss. miss))
 
-  pub none_wanting : NothingOut d → wanting_of d ≡ 0 → pending_of d ≡ 0
+  pub none_wanting : NothingOut d → empty_rows_of d ≡ 0 → pending_of d ≡ 0
   none_wanting out none =
       let same = pending_empty d.texts (each_out held (λ o. o ≡ None) out).texts in
       omega (arith, same, none)

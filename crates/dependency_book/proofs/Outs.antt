@@ -17,8 +17,8 @@ use Rattle.desk_events.specs.declared.mark.Mark.{Mark}
 use Rattle.desk_events.specs.declared.need.Need.{Need}
 use Rattle.desk_events.specs.declared.need.Need.TheVariants.{Step, View}
 use Rattle.dependency_book.specs.BookState.{BookState, arrival_row, text_row, expected}
-use Rattle.dependency_book.specs.Held.{IsHeld, places_of}
-use Rattle.dependency_book.specs.Right.{IsRight}
+use Rattle.dependency_book.specs.Held.{IsHeldBook, places_of}
+use Rattle.dependency_book.specs.Right.{IsRightBook}
 use Rattle.dependency_book.specs.Jobs.{IsAnyOut, IsFirstOut}
 use Rattle.desk_events.specs.Needs.{step_to}
 use Rattle.desk_events.specs.Marks.{is_start, mark_at}
@@ -62,7 +62,7 @@ pub record EachOut (P : Option Job → Type 0) (d : BookState) : Type 0 where
 abbrev pub IsOwn : Entries → Option Job → Type 0
 IsOwn entries o = IfSome o (λ job. IsOf entries job.place)
 
-module _ {d : BookState} {places : List ℕ} (held : IsHeld d places) where
+module _ {d : BookState} {places : List ℕ} (held : IsHeldBook d places) where
   -- the job that a row expects
 
   out_in_row : (k : ℕ) (x : ArrivalRow) → k < length d.arrivals
@@ -91,8 +91,8 @@ module _ {d : BookState} {places : List ℕ} (held : IsHeld d places) where
       by_job need (Some job) is = (held.right.out need job is).own
 
 -- the ranks of its rows rise where a book is right
-pub held_by : (d : BookState) (places : List ℕ) → places ≡ places_of d.arrivals d.plan.bookmarks → IsRight d
-    → IsHeld d places
+pub held_by : (d : BookState) (places : List ℕ) → places ≡ places_of d.arrivals d.plan.bookmarks → IsRightBook d
+    → IsHeldBook d places
 held_by d places are right = record {
   places = are;
   right = right;
@@ -143,7 +143,7 @@ expecting_none d n arrivals texts =
     each_expected (λ o. has_number n o ≡ false) d refl (λ m. row_for-none mark_rank n m d.arrivals arrivals)
     (λ m. row_for-none bookmark_rank n m d.texts texts)
 
-module _ {d : BookState} {places : List ℕ} (held : IsHeld d places) (n : ℕ) where
+module _ {d : BookState} {places : List ℕ} (held : IsHeldBook d places) (n : ℕ) where
   -- its entry is one of the book's table
   expects : (need : Need) (place : Place) → expected d need ≡ numbered n place
       → (expected d need ≡ numbered n place) × IsOf d.table place
@@ -206,7 +206,7 @@ least_has {K} rows n h = has_pair (row_for n rows) (least_found rows n h)
     has_pair None some = absurd cc
     has_pair (Some pair) some = record { key = pair.0; place = pair.1; is = refl }
 
-module _ {d : BookState} {places : List ℕ} (held : IsHeld d places) where
+module _ {d : BookState} {places : List ℕ} (held : IsHeldBook d places) where
   pub first_out_is : IsFirstOut d (lesser (least_out d.arrivals) (least_out d.texts))
   first_out_is = first_of (lesser (least_out d.arrivals) (least_out d.texts)) refl
     where

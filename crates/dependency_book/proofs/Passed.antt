@@ -20,7 +20,7 @@ use Rattle.dependency_book.specs.declared.row.RowState.{RowState}
 use Rattle.dependency_book.specs.declared.row.RowState.TheVariants.{Empty, Expected, Known}
 use Rattle.dependency_book.specs.declared.row.Row.{Row}
 use Rattle.dependency_book.specs.BookState.{BookState}
-use Rattle.dependency_book.specs.Cursor.{HasPassed, IsKept, start}
+use Rattle.dependency_book.specs.Cursor.{HasPassed, IsKeptBook, start}
 use Rattle.dependency_book.specs.Ready.{NoneBefore, before_in, before_row, is_ready, row_before, steppable, viewable}
 use Rattle.dependency_book.specs.RowState.{is_empty, is_known, job_of, state_map}
 use Rattle.dependency_book.specs.Rows.{ArrivalRow, TextRow, put, bookmark_rank, state_at}
@@ -107,9 +107,9 @@ passed_none d places =
     record { views = λ k x low. absurd (omega (arith, low)); steps = λ k x low. absurd (omega (arith, low)) }
 
 module _ {d : BookState} {places : List ℕ} {cursor : Cursor} {issued : List Place} {facts : List Fact}
-    (kept : IsKept d places cursor issued facts) where
+    (kept : IsKeptBook d places cursor issued facts) where
   pub kept_arrival : (m : Mark) (s : RowState World) → CanBePut d (step_to m) (state_map pattern s)
-      → IsKept (with_arrival d m s) places (if is_some (job_of s) then cursor else start) issued facts
+      → IsKeptBook (with_arrival d m s) places (if is_some (job_of s) then cursor else start) issued facts
   kept_arrival m s can = record {
     held = arrival_held kept.held m s can;
     passed = passed s;
@@ -127,7 +127,7 @@ module _ {d : BookState} {places : List ℕ} {cursor : Cursor} {issued : List Pl
       passed (Known v) = passed_none (with_arrival d m (Known v)) places
 
   pub kept_text : (id : ℕ) (s : RowState (List ℕ)) → CanBePut d (View id) (state_map text s)
-      → IsKept (with_text d id s) places (if not (is_empty s) then cursor else start) issued facts
+      → IsKeptBook (with_text d id s) places (if not (is_empty s) then cursor else start) issued facts
   kept_text id s can =
       let e = with_text d id s in
       record {

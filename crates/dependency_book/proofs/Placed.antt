@@ -17,7 +17,7 @@ use Rattle.ranked_rows.proofs.Shared.Places.{Stands, never_falls, rank_rises, ro
 use Rattle.desk_events.specs.declared.mark.Mark.{Mark}
 use Rattle.dependency_book.specs.BookState.{BookState, arrival_row, text_row}
 use Rattle.desk_events.specs.Wanted.{bookmark_in}
-use Rattle.dependency_book.specs.Held.{IsHeld}
+use Rattle.dependency_book.specs.Held.{IsHeldBook}
 use Rattle.desk_events.specs.Marks.{ComesBefore, Precedes, forks_at, is_mark, is_start, mark_at}
 use Rattle.dependency_book.specs.Ready.{before_in, before_row, row_before}
 use Rattle.dependency_book.specs.Rows.{ArrivalRow, TextRow, by_key, keys, bookmark_rank}
@@ -66,7 +66,7 @@ pub record MarkRow (d : BookState) (m : Mark) : Type 0 where
   pub is : (x : ArrivalRow) → mark_of d.arrivals (place_of_mark d m) x ≡ m
   pub stands : arrival_row d m ≡ row.state
 
-module _ {d : BookState} {places : List ℕ} (held : IsHeld d places) where
+module _ {d : BookState} {places : List ℕ} (held : IsHeldBook d places) where
   -- a mark besides the start has a row
   pub has_row : (m : Mark) → is_start m ≡ false → has mark_rank (mark_rank m) (keys d.arrivals)
       ≡ is_mark d.plan m
@@ -236,7 +236,7 @@ pub record StandsIn (d : BookState) (b : Bookmark) : Type 0 where
   pub low : place < length d.texts
   pub is : (x : TextRow) → (get_or d.texts place x).key ≡ b
 
-module _ {d : BookState} {places : List ℕ} (held : IsHeld d places) where
+module _ {d : BookState} {places : List ℕ} (held : IsHeldBook d places) where
   pub bookmark_row : (id : ℕ) → bookmark_in d.plan.bookmarks id
       ≡ option_map (λ (r : TextRow). r.key) (text_at d id)
   bookmark_row id =

@@ -14,11 +14,11 @@ use Rattle.dependency_book.specs.declared.row.RowState.{RowState}
 use Rattle.dependency_book.specs.declared.row.RowState.TheVariants.{Known}
 use Rattle.document_marks.specs.AllMarks.{mark_rank}
 use Rattle.dependency_book.specs.BookState.{BookState, arrival_row, text_row, row_of}
-use Rattle.dependency_book.specs.Held.{IsHeld, places_of}
+use Rattle.dependency_book.specs.Held.{IsHeldBook, places_of}
 use Rattle.desk_events.specs.Needs.{is_need, step_to}
 use Rattle.desk_events.specs.Marks.{bookmark_mark, is_mark, is_start, mark_at}
-use Rattle.dependency_book.specs.Puts.{CanBePut, Puts, can_change, missing}
-use Rattle.dependency_book.specs.Right.{IsRight, IsGiven}
+use Rattle.dependency_book.specs.Puts.{CanBePut, PutsRow, can_change, missing}
+use Rattle.dependency_book.specs.Right.{IsRightBook, IsGiven}
 use Rattle.dependency_book.specs.RowState.{state_map, job_of}
 use Rattle.dependency_book.specs.Rows.{ArrivalRow, keys, state_at, put, bookmark_rank}
 use Rattle.ranked_rows.specs.Rows.{place_in}
@@ -27,7 +27,7 @@ use Rattle.desk_events.proofs.Shared.Marks.{mark_near}
 use Rattle.dependency_book.proofs.Outs.{held_by}
 use Rattle.dependency_book.proofs.Standing.{has, keys-put, state_at-put_same, state_at-put_other, place_in-keys, count-put}
 use Rattle.desk_events.proofs.Shared.Tests.{either_way}
-use Rattle.desk_events.specs.Right.{IsRight as IsRightCore, Stands}
+use Rattle.desk_events.specs.Right.{IsRightBook as IsRightCore, Stands}
 use Rattle.dependency_book.proofs.Shared.Cores.{put_core, put_there}
 use Rattle.schedule.specs.Scratch.{arrival}
 use Rattle.desk_events.specs.Core.{holds}
@@ -36,9 +36,9 @@ use Rattle.dependency_book.specs.Core.{core_of}
 
 -- a book in which something is put is right
 
-pub put_right : (d e : BookState) (need : Need) (s : RowState Value) → IsRight d → CanBePut d need s
-    → Puts need s d e
-    → IsRight e
+pub put_right : (d e : BookState) (need : Need) (s : RowState Value) → IsRightBook d → CanBePut d need s
+    → PutsRow need s d e
+    → IsRightBook e
 put_right d e need s right can puts =
     let plan = puts.book.document.plan in
     record {
@@ -76,7 +76,7 @@ record HasRow (d : BookState) (m : Mark) : Type 0 where
   there : has mark_rank (mark_rank m) (keys d.arrivals) ≡ true
   near : m.generation ≤ 2 ^ 60
 
-has_row : (d : BookState) (m : Mark) → IsRight d → can_change d.plan (step_to m) ≡ true → HasRow d m
+has_row : (d : BookState) (m : Mark) → IsRightBook d → can_change d.plan (step_to m) ≡ true → HasRow d m
 has_row d m right can =
     let off : is_start m ≡ false = grind (arith, can) in
     let there : is_mark d.plan m ≡ true = grind (arith, can) in
@@ -86,9 +86,9 @@ has_row d m right can =
       near = mark_near d.plan m right.core.sound there;
     }
 
-pub arrival_puts : (d : BookState) (m : Mark) (s : RowState World) → IsRight d
+pub arrival_puts : (d : BookState) (m : Mark) (s : RowState World) → IsRightBook d
     → can_change d.plan (step_to m) ≡ true
-    → Puts (step_to m) (state_map pattern s) d (with_arrival d m s)
+    → PutsRow (step_to m) (state_map pattern s) d (with_arrival d m s)
 arrival_puts d m s right can =
     let h = has_row d m right can in
     record {
@@ -112,7 +112,7 @@ arrival_puts d m s right can =
         grind (arith, nat_tests, rank_test m n h.near, same, other, h.off)
 
 pub text_puts : (d : BookState) (id : ℕ) (s : RowState (List ℕ)) → keys d.texts ≡ d.plan.bookmarks
-    → can_change d.plan (View id) ≡ true → Puts (View id) (state_map text s) d (with_text d id s)
+    → can_change d.plan (View id) ≡ true → PutsRow (View id) (state_map text s) d (with_text d id s)
 text_puts d id s bookmarks can =
     let there : has bookmark_rank id (keys d.texts) ≡ true = ap (has bookmark_rank id) bookmarks ∙ can in
     record {
@@ -144,9 +144,9 @@ same_places xs ys bs same =
     ∙ ap (place_in mark_rank (mark_rank (bookmark_mark b))) same
     ∙ sym (place_in-keys mark_rank (mark_rank (bookmark_mark b)) ys)) i)
 
-module _ {d : BookState} {places : List ℕ} (held : IsHeld d places) where
+module _ {d : BookState} {places : List ℕ} (held : IsHeldBook d places) where
   pub arrival_held : (m : Mark) (s : RowState World) → CanBePut d (step_to m) (state_map pattern s)
-      → IsHeld (with_arrival d m s) places
+      → IsHeldBook (with_arrival d m s) places
   arrival_held m s can =
       let puts = arrival_puts d m s held.right can.there in
       held_by (with_arrival d m s) places
@@ -156,7 +156,7 @@ module _ {d : BookState} {places : List ℕ} (held : IsHeld d places) where
       (put_right d (with_arrival d m s) (step_to m) (state_map pattern s) held.right can puts)
 
   pub text_held : (id : ℕ) (s : RowState (List ℕ)) → CanBePut d (View id) (state_map text s)
-      → IsHeld (with_text d id s) places
+      → IsHeldBook (with_text d id s) places
   text_held id s can =
       held_by (with_text d id s) places held.places
       (put_right d (with_text d id s) (View id) (state_map text s) held.right can

@@ -12,9 +12,9 @@ use Rattle.dependency_book.specs.BookState.{BookState, row_of}
 use Rattle.dependency_book.specs.Entered.{StepsTo}
 use Rattle.dependency_book.specs.Jobs.{FreesOne, IsFilled, SameBook}
 use Rattle.desk_events.specs.Needs.{step_to}
-use Rattle.dependency_book.specs.Puts.{CanBePut, Puts, can_change}
-use Rattle.dependency_book.specs.Recalled.{AreGiven, Fills, Recalls, WasGiven}
-use Rattle.dependency_book.specs.Right.{IsRight}
+use Rattle.dependency_book.specs.Puts.{CanBePut, PutsRow, can_change}
+use Rattle.dependency_book.specs.Recalled.{AreGiven, Fills, EntersSteps, WasGiven}
+use Rattle.dependency_book.specs.Right.{IsRightBook}
 use Rattle.dependency_book.proofs.Shared.Recalling.{book_then, recalls_all, recalls_book, recalls_none, recalls_one, recalls_wanting}
 use Rattle.desk_events.specs.Core.{Core, holds, put}
 use Rattle.desk_events.specs.Entered.{StepsFrom}
@@ -22,9 +22,9 @@ use Rattle.desk_events.specs.Entry.{world_after as core_after}
 use Rattle.desk_events.specs.Event.{CanRecall, Event, after_event, collects, recalls}
 use Rattle.desk_events.specs.Law.{Calls, Follows, Recalled}
 use Rattle.desk_events.specs.Law as core
-use Rattle.desk_events.specs.Right.{IsRight as IsRightCore}
+use Rattle.desk_events.specs.Right.{IsRightBook as IsRightCore}
 use Rattle.desk_events.proofs.Shared.Right.{recalls_right, same_comes}
-use Rattle.dependency_book.specs.Called.{IsCollect, Takes}
+use Rattle.dependency_book.specs.Called.{IsCollect, TakesAnswer}
 use Rattle.dependency_book.specs.Core.{core_of, plain_row}
 use Rattle.dependency_book.specs.Said.{answer_said, step_said}
 use Rattle.dependency_book.proofs.Shared.Cores.{arrives_same, put_core}
@@ -86,7 +86,7 @@ module _ {d : BookState} {mark : Mark} {s : Stepping} (h : CanBeEntered d mark s
   earlier_comes : core_after h.earlier.step ≡ world_after s
   earlier_comes = same_comes h.earlier.step (step_said s) h.earlier.same
 
-  pub can_enter : (w : World) → IsRight d → w ≡ world_after s → CanBePut d (step_to mark) (Known (pattern w))
+  pub can_enter : (w : World) → IsRightBook d → w ≡ world_after s → CanBePut d (step_to mark) (Known (pattern w))
   can_enter w right is = record {
     there = h.there;
     right = subst (λ v. IsRightCore (put (step_to mark) (holds (pattern v)) (core_of d)))
@@ -95,15 +95,15 @@ module _ {d : BookState} {mark : Mark} {s : Stepping} (h : CanBeEntered d mark s
     out = tt;
   }
 
-  pub entered : (e : BookState) (w : World) → w ≡ world_after s → Puts (step_to mark) (Known (pattern w)) d e
-      → Recalls d e
+  pub entered : (e : BookState) (w : World) → w ≡ world_after s → PutsRow (step_to mark) (Known (pattern w)) d e
+      → EntersSteps d e
   entered e w is puts =
       recalls_one mark s d e (record {
         there = h.there;
         empty = h.empty;
         own = h.own;
         earlier = h.earlier;
-        puts = subst (λ v. Puts (step_to mark) (Known (pattern v)) d e) is puts;
+        puts = subst (λ v. PutsRow (step_to mark) (Known (pattern v)) d e) is puts;
       })
 
 -- so the steps are recalled in the law
@@ -111,7 +111,7 @@ record IsRecalled (c d : Core) : Type 0 where
   pub list : List Recalled
   pub all : core.Recalls list c d
 
-recalled_core : (d e : BookState) → Recalls d e → IsRecalled (core_of d) (core_of e)
+recalled_core : (d e : BookState) → EntersSteps d e → IsRecalled (core_of d) (core_of e)
 recalled_core =
     recalls_all (λ d e. IsRecalled (core_of d) (core_of e)) (λ d. record { list = []; all = refl })
     (λ mark s d e f h rest.
@@ -125,14 +125,14 @@ recalled_core =
     })
 
 pub recalls_follow : (event : Event) (c : Core) (put new : BookState) → core_of put ≡ after_event c event
-    → Recalls put new → Follows event c (core_of new)
+    → EntersSteps put new → Follows event c (core_of new)
 recalls_follow event c put new is h =
     let r = recalled_core put new h in
     record { entered = r.list; recalls = subst (λ b. core.Recalls r.list b (core_of new)) is r.all }
 
 -- a call, and what was recalled behind it
 pub calls_then : (event : Event) (c : Core) (put new : BookState) → Calls event c (core_of put)
-    → Recalls put new → Calls event c (core_of new)
+    → EntersSteps put new → Calls event c (core_of new)
 calls_then event c put new call h =
     let r = recalled_core put new h in
     record {
@@ -153,9 +153,9 @@ calls_then event c put new call h =
 
 -- an answer was taken by a book that kept a fact
 pub took : {old kept put : BookState} {answer given : JobResult} {f : Filled} → kept ≡ old → given ≡ answer
-    → Takes given kept put f → Takes answer old put f
+    → TakesAnswer given kept put f → TakesAnswer answer old put f
 took {old} {kept} {put} {answer} {given} {f} same is h =
-    subst (λ a. Takes a old put f) is (subst (λ d. Takes given d put f) same h)
+    subst (λ a. TakesAnswer a old put f) is (subst (λ d. TakesAnswer given d put f) same h)
 
 -- what comes of filling a row
 pub record Filling (answer : JobResult) (old new : BookState) (f : Filled) : Type 0 where
@@ -166,7 +166,7 @@ pub record Filling (answer : JobResult) (old new : BookState) (f : Filled) : Typ
   pub event : IsCollect answer old new f
 
 -- where a row was filled and steps were recalled
-pub filled_then : {old put new : BookState} {answer : JobResult} → Takes answer old put Row → Recalls put new
+pub filled_then : {old put new : BookState} {answer : JobResult} → TakesAnswer answer old put Row → EntersSteps put new
     → Filling answer old new Row
 filled_then {old} {put} {new} {answer} h k = record {
   filled = (
@@ -181,7 +181,7 @@ filled_then {old} {put} {new} {answer} h k = record {
 }
 
 -- and where none was
-pub filled_alone : {old put : BookState} {answer : JobResult} (f : Filled) → Takes answer old put f
+pub filled_alone : {old put : BookState} {answer : JobResult} (f : Filled) → TakesAnswer answer old put f
     → Filling answer old put f
 filled_alone {old} {put} {answer} f h = record {
   filled = h.filled;

@@ -28,7 +28,7 @@ use Rattle.desk_events.specs.Marks.{is_mark, is_start, mark_at}
 use Rattle.dependency_book.specs.declared.room.Rows.{Rows}
 use Rattle.dependency_book.specs.Remade.{AreRemade, remade_rows}
 use Rattle.ranked_rows.specs.Rows.{row_at}
-use Rattle.dependency_book.specs.Right.{IsRight}
+use Rattle.dependency_book.specs.Right.{IsRightBook}
 use Rattle.dependency_book.specs.Rows.{ArrivalRow, TextRow, by_key, keys, state_at, bookmark_rank}
 use Rattle.dependency_book.proofs.Followed.{MayBeFelt, stays_for, texts_stay}
 use Rattle.document_marks.proofs.Shared.Grown.{accepted, unrefused}
@@ -38,11 +38,11 @@ use Rattle.dependency_book.proofs.Remaking.{kept_for, keys-remade, state_at-rema
 use Rattle.dependency_book.proofs.Standing.{has, key_row, state_at-above, state_row}
 use Rattle.desk_events.specs.Core.{arrival_in}
 use Rattle.desk_events.specs.Event.{MayBeAsked, after_edit as core_after_edit, after_event, edits, kept_row}
-use Rattle.desk_events.specs.Right.{IsRight as IsRightCore}
+use Rattle.desk_events.specs.Right.{IsRightBook as IsRightCore}
 use Rattle.desk_events.proofs.Shared.Right.{edits_right_on}
 use Rattle.dependency_book.specs.Called.{IsEdit}
 use Rattle.dependency_book.specs.Core.{core_of, plain_row}
-use Rattle.dependency_book.specs.Recalled.{Recalls}
+use Rattle.dependency_book.specs.Recalled.{EntersSteps}
 use Rattle.dependency_book.proofs.Shared.Cores.{arrives_same, same_core}
 use Rattle.dependency_book.proofs.Recalled.{recalls_follow}
 
@@ -134,7 +134,7 @@ may_be_felt known p q asked felt (inl h) = inl h.1
 may_be_felt known p q asked felt (inr h) = inr h.1
 
 -- just what the edit keeps
-pub edit_keeps : (d : BookState) (asked : Asked) (felt : Option Mark) (marks : List Mark) → IsRight d
+pub edit_keeps : (d : BookState) (asked : Asked) (felt : Option Mark) (marks : List Mark) → IsRightBook d
     → MayBeFelt d.plan asked felt → AreMarksOf (changed d.plan asked).plan marks
     → KeepsRows asked felt d (after_edit d (changed d.plan asked).plan felt marks)
 edit_keeps d asked felt marks right so are = record {
@@ -162,7 +162,7 @@ kept_out asked felt d e (View id) job keeps out = grind (arith, keeps.texts id, 
 
 -- an edit keeps just this of a book, which is right afterwards
 abbrev pub Revises : Asked → BookState → BookState → Type 0
-Revises asked d e = KeepsUnfelt asked d e × IsRight e
+Revises asked d e = KeepsUnfelt asked d e × IsRightBook e
 
 -- the desk after the edit
 edited_core : (d : BookState) (asked : Asked) (felt : Option Mark) (e : BookState)
@@ -185,7 +185,7 @@ felt_core d asked felt q h = subst (λ known. IsFelt known d.plan asked q felt) 
 
 edit_revises : (d : BookState) (asked : Asked) (felt : Option Mark) (marks : List Mark)
     → refusal d.plan asked ≡ None
-    → IsRight d → BookFeels d asked felt → IsSound (changed d.plan asked).plan
+    → IsRightBook d → BookFeels d asked felt → IsSound (changed d.plan asked).plan
     → AreMarksOf (changed d.plan asked).plan marks
     → Revises asked d (after_edit d (changed d.plan asked).plan felt marks)
 edit_revises d asked felt marks free right is_felt sound are =
@@ -208,7 +208,7 @@ edit_revises d asked felt marks free right is_felt sound are =
 
 -- rows that were made of a book's rows after an edit
 pub revises : (d : BookState) (q : Plan) (asked : Asked) (edited : Edited) (felt : Option Mark) (rows : Rows)
-    → IsRight d → change d.plan asked ≡ Ok (made q edited) → BookFeels d asked felt
+    → IsRightBook d → change d.plan asked ≡ Ok (made q edited) → BookFeels d asked felt
     → AreRemade q d.arrivals d.texts felt rows
     → Revises asked d (with_rows d q rows.arrivals.items rows.texts.items)
 revises d q asked edited felt rows right is is_felt h =
@@ -221,7 +221,7 @@ revises d q asked edited felt rows right is is_felt h =
 
 -- the edit is an event of the law, and so is what was recalled behind it
 pub edits_call : (old kept new : BookState) (asked : Asked) (edited : Edited) → MayBeAsked asked
-    → change old.plan asked ≡ Ok (made kept.plan edited) → KeepsUnfelt asked old kept → Recalls kept new
+    → change old.plan asked ≡ Ok (made kept.plan edited) → KeepsUnfelt asked old kept → EntersSteps kept new
     → IsEdit asked old new
 edits_call old kept new asked edited may is h recalls =
     let felt = h.felt in

@@ -3,7 +3,7 @@ use Rattle.std.proofs.Common.{◌≡◌, ℕ, ◌∙◌, List, refl, ap, None, S
 use Rattle.std.specs.Option.{option_map}
 use Rattle.dependency_book.specs.BookState.{BookState, text_row}
 use Rattle.desk_events.specs.Wanted.{bookmark_in}
-use Rattle.dependency_book.specs.Held.{IsHeld}
+use Rattle.dependency_book.specs.Held.{IsHeldBook}
 use Rattle.dependency_book.specs.RowState.{known}
 use Rattle.dependency_book.specs.Rows.{TextRow, bookmark_rank}
 use Rattle.dependency_book.specs.Shown.{IsCurrent, IsPending}
@@ -11,7 +11,7 @@ use Rattle.dependency_book.proofs.Placed.{bookmark_row, text_at}
 use Rattle.dependency_book.proofs.Standing.{state_in, state_row}
 use Rattle.dependency_book.proofs.Shared.Cores.{text_scratch}
 
-module _ {d : BookState} {places : List ℕ} (held : IsHeld d places) (id : ℕ) where
+module _ {d : BookState} {places : List ℕ} (held : IsHeldBook d places) (id : ℕ) where
   its_bookmark : (x : TextRow) → text_at d id ≡ Some x → bookmark_in d.plan.bookmarks id ≡ Some x.key
   its_bookmark x found = bookmark_row held id ∙ ap (option_map (λ (r : TextRow). r.key)) found
 

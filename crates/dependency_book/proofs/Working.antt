@@ -12,7 +12,7 @@ use Rattle.revision_jobs.specs.declared.entry.Entry.{Entry}
 use Rattle.revision_jobs.specs.declared.entry.Entry.TheVariants as entry
 use Rattle.revision_jobs.specs.declared.answer.Job.{Job}
 use Rattle.revision_jobs.specs.declared.entries.Place.{Place}
-use Rattle.revision_jobs.specs.Answer.{JobResult, IsRight as IsRightAnswer}
+use Rattle.revision_jobs.specs.Answer.{JobResult, IsRightBook as IsRightAnswer}
 use Rattle.revision_jobs.specs.Entries.{IsOf, entry_of, index_of}
 use Rattle.revision_jobs.specs.Room.{HasNoRoom}
 use Rattle.revision_jobs.specs.Value.{Value, text, value}
@@ -27,7 +27,7 @@ use Rattle.desk_events.specs.Event.{CanIssue, IsTrueAnswer, after_event, answere
 use Rattle.desk_events.specs.Law.{Calls}
 use Rattle.desk_events.specs.Marks.{is_mark, is_start, mark_at}
 use Rattle.desk_events.specs.Needs.{is_need, step_to}
-use Rattle.desk_events.specs.Right.{IsRight as IsRightCore}
+use Rattle.desk_events.specs.Right.{IsRightBook as IsRightCore}
 use Rattle.desk_events.specs.Wanted.{bookmark_in, text_wanted}
 use Rattle.desk_events.proofs.Shared.Needs.{need_is, need_same}
 use Rattle.desk_events.proofs.Shared.Right.{get_last, get_left}
@@ -40,13 +40,13 @@ use Rattle.dependency_book.specs.declared.filled.Filled.TheVariants.{NotExpected
 use Rattle.dependency_book.specs.declared.row.RowState.{RowState}
 use Rattle.dependency_book.specs.declared.row.RowState.TheVariants.{Empty, Expected}
 use Rattle.dependency_book.specs.BookState.{BookState, row_of, expected, with_refusal}
-use Rattle.dependency_book.specs.Called.{IsCancel, IsCollect, IsIssue, Takes}
+use Rattle.dependency_book.specs.Called.{IsCancel, IsCollect, IsIssue, TakesAnswer}
 use Rattle.dependency_book.specs.Core.{core_of, plain_row}
-use Rattle.dependency_book.specs.Cursor.{IsKept}
+use Rattle.dependency_book.specs.Cursor.{IsKeptBook}
 use Rattle.dependency_book.specs.Jobs.{is_job, given_by, answered, cancelled, IsFilled, IsNextJob, StepExpects}
 use Rattle.dependency_book.specs.Needs.{IsNext}
-use Rattle.dependency_book.specs.Puts.{CanBePut, Puts, can_change, filled_by, missing}
-use Rattle.dependency_book.specs.Right.{IsGiven, IsRight}
+use Rattle.dependency_book.specs.Puts.{CanBePut, PutsRow, can_change, filled_by, missing}
+use Rattle.dependency_book.specs.Right.{IsGiven, IsRightBook}
 use Rattle.dependency_book.specs.RowState.{job_of, has_number, state_map}
 use Rattle.dependency_book.specs.Rows.{keys, bookmark_rank}
 use Rattle.dependency_book.specs.Said.{answer_said, said, said_at, value_in}
@@ -62,7 +62,7 @@ pub may_change : (p : Plan) (m : Mark) → is_start m ≡ false → is_mark p m 
 may_change p m off there = grind (arith, off, there)
 
 -- the row may change
-expected_row : (d : BookState) (need : Need) (job : Job) → IsRight d → expected d need ≡ Some job
+expected_row : (d : BookState) (need : Need) (job : Job) → IsRightBook d → expected d need ≡ Some job
     → can_change d.plan need ≡ true
 expected_row d (View id) job right some =
     let none = state_at-above bookmark_rank id d.texts in
@@ -116,7 +116,7 @@ module _ {d : BookState} {need : Need} {job : Job} (next : IsNextJob d need job)
     entry = get_left d.entries (said_at job.place ∷ []) other.number (said_at other.place) h.entry;
   }
 
-  more_right : IsRight d → IsRight (more d job.place)
+  more_right : IsRightBook d → IsRightBook (more d job.place)
   more_right right = record {
     core = core.more_right (core_of d) (said_at job.place) right.core can_issue.few;
     marks = right.marks;
@@ -125,7 +125,7 @@ module _ {d : BookState} {need : Need} {job : Job} (next : IsNextJob d need job)
   }
 
   pub kept_more : {places : List ℕ} {cursor : Cursor} {issued : List Place} {facts : List Fact}
-      → IsKept d places cursor issued facts → IsKept (more d job.place) places cursor
+      → IsKeptBook d places cursor issued facts → IsKeptBook (more d job.place) places cursor
       (issued ++ job.place ∷ []) facts
   kept_more {places} {cursor} {issued} kept =
       let held = kept.held in
@@ -139,7 +139,7 @@ module _ {d : BookState} {need : Need} {job : Job} (next : IsNextJob d need job)
             record { number = h.number; step = h.step; there = still; same = h.same };
       }
 
-  pub may_await : IsRight d → CanBePut (more d job.place) need (Expected job)
+  pub may_await : IsRightBook d → CanBePut (more d job.place) need (Expected job)
   may_await right = record {
     there = (next_row d need next.next).0;
     right = subst (λ n. IsRightCore (put need (awaits n) (core_of (more d job.place)))) (sym next.number)
@@ -152,7 +152,7 @@ module _ {d : BookState} {need : Need} {job : Job} (next : IsNextJob d need job)
   }
 
   -- so the job is issued
-  pub issue_is : (e : BookState) → Puts need (Expected job) (more d job.place) e → IsIssue need job d e
+  pub issue_is : (e : BookState) → PutsRow need (Expected job) (more d job.place) e → IsIssue need job d e
   issue_is e puts =
       record {
         rows = puts.rows;
@@ -174,7 +174,7 @@ module _ {d : BookState} {need : Need} {job : Job} (next : IsNextJob d need job)
 
 -- the book in which an issue more was refused
 
-right_refused : (d : BookState) → IsRight d → IsRight (with_refusal d)
+right_refused : (d : BookState) → IsRightBook d → IsRightBook (with_refusal d)
 right_refused d right = record {
   core = right.core;
   marks = right.marks;
@@ -184,7 +184,7 @@ right_refused d right = record {
 
 pub kept_refused : {d : BookState} {places : List ℕ} {cursor : Cursor} {issued : List Place}
     {facts : List Fact}
-    → IsKept d places cursor issued facts → IsKept (with_refusal d) places cursor issued facts
+    → IsKeptBook d places cursor issued facts → IsKeptBook (with_refusal d) places cursor issued facts
 kept_refused {d} {places} kept =
     let held = kept.held in
     record {
@@ -231,7 +231,7 @@ elsewhere_if : (job : Job) (here : Bool) (place : Place) (s : RowState Value) �
     → (index_of place ≡ index_of job.place → ⊥) → is_job job (job_of s) ≡ false
 elsewhere_if job here place s out apart = grind (arith, nat_tests, out, apart)
 
-module _ {d : BookState} (need : Need) {n : ℕ} {place : Place} (right : IsRight d)
+module _ {d : BookState} (need : Need) {n : ℕ} {place : Place} (right : IsRightBook d)
     (out : expected d need ≡ numbered n place) where
   one_out : (other : Need) → OutIf (is_need need other) n place (row_of d other)
   one_out other =
@@ -263,14 +263,14 @@ module _ {d : BookState} (need : Need) {n : ℕ} {place : Place} (right : IsRigh
   }
 
   -- so the job is cancelled
-  pub cancel_is : (e : BookState) → Puts need Empty d e → IsCancel n d e
+  pub cancel_is : (e : BookState) → PutsRow need Empty d e → IsCancel n d e
   cancel_is e puts = record {
     can = tt;
     true_one = tt;
     follows = record { entered = []; recalls = put_core d e need Empty puts ∙ sym cancelled_put };
   }
 
-  pub put_cancels : (e : BookState) → Puts need Empty d e → (other : Need)
+  pub put_cancels : (e : BookState) → PutsRow need Empty d e → (other : Need)
       → row_of e other ≡ cancelled n (row_of d other)
   put_cancels e puts other =
       puts.rows other ∙ cancelled_if n (is_need need other) place (row_of d other) (one_out other)
@@ -285,7 +285,7 @@ none_numbered d job none need = other_job (expected d need) (none need)
     other_job : (o : Option Job) → has_number job.number o ≡ false → is_job job o ≡ false
     other_job o h = grind arith
 
-pub elsewhere : {d : BookState} (need : Need) {place : Place} (job : Job) → IsRight d
+pub elsewhere : {d : BookState} (need : Need) {place : Place} (job : Job) → IsRightBook d
     → expected d need ≡ numbered job.number place → (index_of place ≡ index_of job.place → ⊥) → (other : Need)
     → is_job job (expected d other) ≡ false
 elsewhere {d} need {place} job right out apart other =
@@ -294,7 +294,7 @@ elsewhere {d} need {place} job right out apart other =
 -- then nothing changes
 pub none_takes : (d : BookState) {answer : JobResult}
     → ((need : Need) → is_job answer.job (expected d need) ≡ false)
-    → Takes answer d d NotExpected
+    → TakesAnswer answer d d NotExpected
 none_takes d none = record {
   filled = (none, refl);
   rows = λ need. let off = none need in sym (rw off refl);
@@ -310,7 +310,7 @@ value_said (entry.View r) = refl
 
 -- a row of a book that is right expects the job of an answer, whose entry it was given for
 pub record IsAwaited (d : BookState) (need : Need) (place : Place) (answer : JobResult) : Type 0 where
-  pub right : IsRight d
+  pub right : IsRightBook d
   pub out : expected d need ≡ numbered answer.job.number place
   pub index : index_of place ≡ index_of answer.job.place
   pub entry : entry_of place ≡ entry_of answer.job.place
@@ -375,8 +375,8 @@ module _ {d : BookState} {need : Need} {place : Place} {answer : JobResult}
       none_given (Err fault) = tt
 
   -- and then the answer was taken
-  pub answer_takes : (e : BookState) → Puts need (given_by answer.outcome) d e
-      → Takes answer d e (filled_by answer.outcome)
+  pub answer_takes : (e : BookState) → PutsRow need (given_by answer.outcome) d e
+      → TakesAnswer answer d e (filled_by answer.outcome)
   answer_takes e puts = record {
     filled = by_outcome answer.outcome refl;
     rows = λ other. puts.rows other

@@ -86,8 +86,8 @@ abbrev pub pending_of : BookState → ℕ
 pending_of d = count_by is_pending d.texts
 
 -- in how many rows nothing stands
-abbrev pub wanting_of : BookState → ℕ
-wanting_of d =
+abbrev pub empty_rows_of : BookState → ℕ
+empty_rows_of d =
     count_by (λ r. is_empty r.state) d.arrivals + count_by (λ r. is_empty r.state) d.texts
 
 -- each text that was known still is

@@ -9,7 +9,7 @@ use Rattle.desk_events.specs.Event.{cancels, collects, edits, issues}
 use Rattle.desk_events.specs.Law.{Calls}
 use Rattle.dependency_book.specs.declared.filled.Filled.{Filled}
 use Rattle.dependency_book.specs.declared.filled.Filled.TheVariants.{Row, Released, NotExpected}
-use Rattle.dependency_book.specs.BookState.{BookState, row_of, wanting_of}
+use Rattle.dependency_book.specs.BookState.{BookState, row_of, empty_rows_of}
 use Rattle.dependency_book.specs.Core.{core_of}
 use Rattle.dependency_book.specs.Jobs.{IsFilled, SameBook, SameDocument, answered, issued}
 use Rattle.dependency_book.specs.Said.{answer_said, said_at}
@@ -26,7 +26,7 @@ pub record IsIssue (need : Need) (job : Job) (old new : BookState) : Type 0 wher
   pub document : SameDocument old new
   pub entries : new.entries ≡ old.entries ++ said_at job.place ∷ []
   pub refused : new.refused ≡ old.refused
-  pub fewer : wanting_of new + 1 ≡ wanting_of old
+  pub fewer : empty_rows_of new + 1 ≡ empty_rows_of old
   pub event : Calls (issues need (said_at job.place)) (core_of old) (core_of new)
 
 -- an answer that a row expects is collected; any other changes nothing
@@ -38,7 +38,7 @@ IsCollect answer old new NotExpected = new ≡ old
 
 -- what a book that takes an answer changes: no row but that which expects its job, as an event of
 -- the law does
-pub record Takes (answer : JobResult) (old new : BookState) (result : Filled) : Type 0 where
+pub record TakesAnswer (answer : JobResult) (old new : BookState) (result : Filled) : Type 0 where
   pub filled : IsFilled old new answer result
   pub rows : (need : Need) → row_of new need ≡ answered answer (row_of old need)
   pub book : SameBook old new

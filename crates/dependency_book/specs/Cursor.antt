@@ -6,7 +6,7 @@ use Rattle.revision_jobs.specs.declared.entries.Place.{Place}
 use Rattle.revision_jobs.specs.Entries.{IsOf}
 use Rattle.step_facts.specs.Known.{Fact}
 use Rattle.dependency_book.specs.BookState.{BookState}
-use Rattle.dependency_book.specs.Held.{IsHeld}
+use Rattle.dependency_book.specs.Held.{IsHeldBook}
 use Rattle.dependency_book.specs.Ready.{NoneBefore, steppable, viewable}
 use Rattle.dependency_book.specs.Recalled.{AreGiven}
 
@@ -22,9 +22,9 @@ pub record HasPassed (d : BookState) (places : List ℕ) (cursor : Cursor) : Typ
 
 -- a book holds its rows with these places, and has passed the rows before a cursor; the entries of
 -- its numbers are of its table, and it remembers steps of such entries alone
-pub record IsKept (d : BookState) (places : List ℕ) (cursor : Cursor) (issued : List Place)
+pub record IsKeptBook (d : BookState) (places : List ℕ) (cursor : Cursor) (issued : List Place)
     (remembered : List Fact) : Type 0 where
-  pub held : IsHeld d places
+  pub held : IsHeldBook d places
   pub passed : HasPassed d places cursor
   pub own : AllByRecursion (IsOf d.table) issued
   pub facts : AreGiven d.entries remembered

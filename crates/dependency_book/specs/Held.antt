@@ -3,7 +3,7 @@ use Rattle.std.specs.Prelude.{◌≡◌, ℕ, List, map}
 use Rattle.schedule.specs.declared.document.Bookmark.{Bookmark}
 use Rattle.dependency_book.specs.BookState.{BookState}
 use Rattle.desk_events.specs.Marks.{bookmark_mark}
-use Rattle.dependency_book.specs.Right.{IsRight}
+use Rattle.dependency_book.specs.Right.{IsRightBook}
 use Rattle.dependency_book.specs.Rows.{ArrivalRow, IsRanked, bookmark_rank, by_key}
 use Rattle.ranked_rows.specs.Rows.{place_in}
 use Rattle.document_marks.specs.AllMarks.{mark_rank}
@@ -15,8 +15,8 @@ places_of arrivals bookmarks =
     bookmarks
 
 -- the book is right, the ranks of its rows rise, and the places are those of the bookmarks' marks
-pub record IsHeld (d : BookState) (found : List ℕ) : Type 0 where
+pub record IsHeldBook (d : BookState) (found : List ℕ) : Type 0 where
   pub places : found ≡ places_of d.arrivals d.plan.bookmarks
-  pub right : IsRight d
+  pub right : IsRightBook d
   pub marks_rise : IsRanked mark_rank d.arrivals
   pub ids_rise : IsRanked bookmark_rank d.texts

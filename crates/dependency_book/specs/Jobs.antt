@@ -16,7 +16,7 @@ use Rattle.desk_events.specs.declared.mark.Mark.{Mark}
 use Rattle.desk_events.specs.declared.need.Need.{Need}
 use Rattle.dependency_book.specs.Entered.{IsEntryOf}
 use Rattle.dependency_book.specs.RowState.{job_of, has_number}
-use Rattle.dependency_book.specs.BookState.{BookState, NothingOut, expected, given_of, row_of, wanting_of}
+use Rattle.dependency_book.specs.BookState.{BookState, NothingOut, expected, given_of, row_of, empty_rows_of}
 use Rattle.desk_events.specs.Marks.{is_mark, is_start}
 use Rattle.dependency_book.specs.Needs.{IsNext}
 use Rattle.dependency_book.specs.Rows.{keys}
@@ -71,7 +71,7 @@ pub record StepExpects (d : BookState) (answer : JobResult) : Type 0 where
 -- nothing changes
 abbrev pub IsFilled : BookState → BookState → JobResult → Filled → Type 0
 IsFilled old new answer Row =
-    IsExpected old answer.job × IsOk answer.outcome × (wanting_of new ≤ wanting_of old)
+    IsExpected old answer.job × IsOk answer.outcome × (empty_rows_of new ≤ empty_rows_of old)
 IsFilled old new answer (Released fault) =
     IsExpected old answer.job
     × (answer.outcome ≡ Err fault)

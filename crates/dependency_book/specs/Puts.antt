@@ -9,7 +9,7 @@ use Rattle.dependency_book.specs.declared.filled.Filled.TheVariants.{Row, Releas
 use Rattle.dependency_book.specs.declared.row.RowState.{RowState}
 use Rattle.desk_events.specs.declared.need.Need.{Need}
 use Rattle.dependency_book.specs.RowState.{is_empty, job_of}
-use Rattle.dependency_book.specs.BookState.{BookState, row_of, wanting_of}
+use Rattle.dependency_book.specs.BookState.{BookState, row_of, empty_rows_of}
 use Rattle.desk_events.specs.declared.need.Need.TheVariants.{Step, View}
 use Rattle.dependency_book.specs.Jobs.{SameBook}
 use Rattle.desk_events.specs.Needs.{is_need}
@@ -37,11 +37,11 @@ abbrev pub missing : {V : Type 0} → RowState V → ℕ
 missing state = cond (is_empty state) 1 0
 
 -- this stands in the row of a need afterwards, and in each other row what stood there
-pub record Puts (need : Need) (state : RowState Value) (old new : BookState) : Type 0 where
+pub record PutsRow (need : Need) (state : RowState Value) (old new : BookState) : Type 0 where
   pub book : SameBook old new
   pub rows : (other : Need) →
       row_of new other ≡ (if is_need need other then state else row_of old other)
-  pub wanting : wanting_of new + missing (row_of old need) ≡ wanting_of old + missing state
+  pub wanting : empty_rows_of new + missing (row_of old need) ≡ empty_rows_of old + missing state
 
 -- what came of an outcome that is put
 abbrev pub filled_by : Result Value EvolveFault → Filled

@@ -14,7 +14,7 @@ use Rattle.desk_events.specs.Needs.{step_to}
 use Rattle.dependency_book.specs.Kept.{KeepsUnfelt}
 use Rattle.desk_events.specs.Entry.{AreSameSteps, Entry, Stepping as Given, steps}
 use Rattle.step_facts.specs.Known.{Fact, known}
-use Rattle.dependency_book.specs.Puts.{Puts, can_change}
+use Rattle.dependency_book.specs.Puts.{PutsRow, can_change}
 use Rattle.dependency_book.specs.Said.{step_said}
 
 -- an earlier number was given for the same step, whatever its rule is called
@@ -35,7 +35,7 @@ pub record Enters (mark : Mark) (s : Stepping) (d e : BookState) : Type 0 where
   pub empty : row_of d (step_to mark) ≡ Empty
   pub own : StepsTo d mark s
   pub earlier : WasGiven d.entries s
-  pub puts : Puts (step_to mark) (Known (pattern (world_after s))) d e
+  pub puts : PutsRow (step_to mark) (Known (pattern (world_after s))) d e
 
 -- what comes of these steps is entered for their marks, one after the other
 abbrev pub Entered : List (Mark × Stepping) → BookState → BookState → Type 0
@@ -43,8 +43,8 @@ Entered [] d e = e ≡ d
 Entered (r ∷ rs) d f = (e : BookState) × Enters r.0 r.1 d e × Entered rs e f
 
 -- what comes of some steps is entered
-abbrev pub Recalls : BookState → BookState → Type 0
-Recalls d e = (entered : List (Mark × Stepping)) × Entered entered d e
+abbrev pub EntersSteps : BookState → BookState → Type 0
+EntersSteps d e = (entered : List (Mark × Stepping)) × Entered entered d e
 
 -- what an edit keeps stands, and what is known by steps that were computed before was entered; the
 -- table is the same, and no number of a job was given
@@ -53,11 +53,11 @@ pub record Revises (asked : Asked) (old new : BookState) : Type 0 where
   pub entries : new.entries ≡ old.entries
   pub kept : BookState
   pub keeps : KeepsUnfelt asked old kept
-  pub recalls : Recalls kept new
+  pub recalls : EntersSteps kept new
 
 -- an answer was taken, and what is known by steps that were computed before was entered
 pub record Fills (answer : JobResult) (old new : BookState) : Type 0 where
   pub put : BookState
   pub book : SameBook old put
   pub rows : (need : Need) → row_of put need ≡ answered answer (row_of old need)
-  pub recalls : Recalls put new
+  pub recalls : EntersSteps put new

@@ -3,7 +3,7 @@ use Rattle.std.specs.Prelude.{◌≡◌, Some, slice_get}
 use Rattle.revision_jobs.specs.declared.answer.Job.{Job}
 use Rattle.revision_jobs.specs.Entries.{IsOf}
 use Rattle.desk_events.specs.declared.need.Need.{Need}
-use Rattle.desk_events.specs.Right.{IsRight as IsRightCore}
+use Rattle.desk_events.specs.Right.{IsRightBook as IsRightCore}
 use Rattle.document_marks.specs.AllMarks.{AreMarksOf}
 use Rattle.dependency_book.specs.BookState.{BookState, expected}
 use Rattle.dependency_book.specs.Core.{core_of}
@@ -17,7 +17,7 @@ pub record IsGiven (d : BookState) (job : Job) : Type 0 where
 
 -- the desk that it shows is right; the rows are those of the document's marks but the start and of
 -- its bookmarks, in order; and each job that is out was given
-pub record IsRight (d : BookState) : Type 0 where
+pub record IsRightBook (d : BookState) : Type 0 where
   pub core : IsRightCore (core_of d)
   pub marks : AreMarksOf d.plan (keys d.arrivals)
   pub bookmarks : keys d.texts ≡ d.plan.bookmarks

@@ -6,7 +6,7 @@ use Rattle.document_marks.specs.MostMarks.{marks_at_most_after}
 use Rattle.dependency_book.specs.declared.room.Room.{Room}
 
 -- it is empty, and has places for so many marks and bookmarks
-pub record HasRoom (room : Room) (marks_there bookmarks_there : ℕ) : Type 0 where
+pub record HasPlaces (room : Room) (marks_there bookmarks_there : ℕ) : Type 0 where
   pub no_marks : room.marks.items ≡ []
   pub no_arrivals : room.rows.arrivals.items ≡ []
   pub no_texts : room.rows.texts.items ≡ []
@@ -19,4 +19,4 @@ pub record HasRoom (room : Room) (marks_there bookmarks_there : ℕ) : Type 0 wh
 -- it has places for the document after an edit, which has at most one more bookmark
 abbrev pub HasRoomAfter : Plan → Asked → Room → Type 0
 HasRoomAfter p asked room =
-    HasRoom room (marks_at_most_after p asked) (length p.bookmarks + 1)
+    HasPlaces room (marks_at_most_after p asked) (length p.bookmarks + 1)

@@ -2,7 +2,7 @@
 ghost use Rattle.std.specs.Prelude.{◌≡◌, ◌≤◌, ◌+◌, IfOk, IfNone, IfSome, length};
 ghost use Rattle.dependency_book.specs.BookState.{NothingOut, opened, pending_of, row_of};
 ghost use Rattle.dependency_book.specs.Needs.{IsNext, IsNextStep, IsNextView};
-ghost use Rattle.dependency_book.specs.Right.{IsRight};
+ghost use Rattle.dependency_book.specs.Right.{IsRightBook};
 ghost use Rattle.dependency_book.specs.Shown.{Shows};
 ghost use Rattle.dependency_book.specs.declared.row.RowState.TheVariants.{Empty};
 
@@ -50,11 +50,11 @@ impl<'e> Model for Book<'e> {
     ghost coded = { Prim.hlevel (codes, coded_world) };
 
     ghost use Rattle.dependency_book.specs.Inside.{state_of};
-    ghost use Rattle.dependency_book.specs.Cursor.{IsKept};
+    ghost use Rattle.dependency_book.specs.Cursor.{IsKeptBook};
 
     ghost view = { state_of };
 
-    ghost invariant = { λ book. IsKept (state_of book) book.places.items book.cursor
+    ghost invariant = { λ book. IsKeptBook (state_of book) book.places.items book.cursor
         book.issued.items book.facts };
 }
 
@@ -68,7 +68,7 @@ impl<'e> Book<'e> {
         facts: NonZeroUsize,
     ) -> Result<Book<'e>, AllocError>
         ensures opened { IfOk result (λ book. book ≡ opened entries.now revision) }
-        ensures right { IfOk result IsRight }
+        ensures right { IfOk result IsRightBook }
     {
         Ok(Book {
             entries,
@@ -152,7 +152,7 @@ impl<'e> Book<'e> {
     fn next_step(&mut self) -> Option<Mark>
         ensures same { self.new ≡ self.old }
         ensures next { IsNextStep self.new result }
-        ensures right { IsRight self.new }
+        ensures right { IsRightBook self.new }
     {
         match first_step(&self.document, &self.arrivals, self.cursor.steps) {
             Some(place) => {

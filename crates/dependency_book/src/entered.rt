@@ -6,7 +6,7 @@ ghost use Rattle.dependency_book.specs.BookState.{arrival_known};
 ghost use Rattle.dependency_book.specs.Entered.{IsEntryOf, StepsTo};
 ghost use Rattle.desk_events.specs.Marks.{ComesBefore};
 ghost use Rattle.dependency_book.specs.Needs.{IsLedTo, IsNext};
-ghost use Rattle.dependency_book.specs.Right.{IsRight};
+ghost use Rattle.dependency_book.specs.Right.{IsRightBook};
 
 use crate::book::Book;
 use crate::need::before_row;
@@ -40,7 +40,7 @@ impl Book<'_> {
     pub(crate) fn step_to(&self, mark: Mark) -> Result<Step, AllocError>
         requires { IsLedTo self.now mark }
         ensures step { IfOk result (StepsTo self.now mark) }
-        ensures right { IsRight self.now }
+        ensures right { IsRightBook self.now }
     {
         let before = self.before(mark);
         let interventions = self.document.interventions();
@@ -66,7 +66,7 @@ impl Book<'_> {
     fn view_of(&self, id: u64) -> Result<Entry, AllocError>
         requires { IsNext self.now (Some (Need.View id)) }
         ensures entry { IfOk result (λ entry. IsEntryOf self.now (Need.View id) entry) }
-        ensures right { IsRight self.now }
+        ensures right { IsRightBook self.now }
     {
         let Some(row) = get(&self.texts, u128::from(id)) else {
             unreachable!("a bookmark of the document has a row")

@@ -1,7 +1,7 @@
 //! Jobs for the rows of a book, and what their answers change.
 ghost use Rattle.std.specs.Prelude.{◌≡◌, MatchOption, IfSome, OnErr, OnOk};
 ghost use Rattle.std.specs.Arc.{arc_value};
-ghost use Rattle.revision_jobs.specs.Answer.{IsRight as IsRightAnswer, outcome_of, result_in};
+ghost use Rattle.revision_jobs.specs.Answer.{IsRightBook as IsRightAnswer, outcome_of, result_in};
 ghost use Rattle.revision_jobs.specs.Entries.{IsOf};
 ghost use Rattle.revision_jobs.specs.Value.{pattern, text};
 ghost use Rattle.dependency_book.specs.declared.row.RowState.TheVariants.{Empty, Expected, Known};
@@ -12,10 +12,10 @@ ghost use Rattle.dependency_book.specs.Jobs.{Expects, FreesOne, IsNextJob, NoneE
 ghost use Rattle.dependency_book.specs.Jobs.{SameDocument};
 ghost use Rattle.desk_events.specs.Needs.{step_to};
 ghost use Rattle.dependency_book.specs.BookState.{given_of, row_of, with_refusal};
-ghost use Rattle.dependency_book.specs.Called.{IsCancel, IsCollect, IsIssue, Takes};
+ghost use Rattle.dependency_book.specs.Called.{IsCancel, IsCollect, IsIssue, TakesAnswer};
 ghost use Rattle.dependency_book.specs.Recalled.{Fills};
-ghost use Rattle.dependency_book.specs.Right.{IsRight};
-ghost use Rattle.dependency_book.specs.Puts.{CanBePut, Puts, filled_by};
+ghost use Rattle.dependency_book.specs.Right.{IsRightBook};
+ghost use Rattle.dependency_book.specs.Puts.{CanBePut, PutsRow, filled_by};
 
 use crate::arrival::Arrival;
 use crate::book::Book;
@@ -43,7 +43,7 @@ impl Book<'_> {
         requires { IsNextJob self.old need.now job }
         ensures issued { OnOk result (IsIssue need.now job self.old self.new) }
         ensures unchanged { OnErr result (self.new ≡ self.old) }
-        ensures right { IsRight self.new }
+        ensures right { IsRightBook self.new }
     {
         self.issued.push(job.place.share())?;
         self.await_job(need, job);
@@ -53,7 +53,7 @@ impl Book<'_> {
     /// Notes that an issue was refused, since memory ran out. Clauses alone count it.
     pub fn note_refusal(&mut self, _refused: AllocError)
         ensures noted { self.new ≡ with_refusal self.old }
-        ensures right { IsRight self.new }
+        ensures right { IsRightBook self.new }
     {
         self.refused.note();
     }
@@ -61,8 +61,8 @@ impl Book<'_> {
     // Notes in the row of a need that a job is out, whose number was given last.
     fn await_job(&mut self, need: &Need, job: Job)
         requires { CanBePut self.old need.now (Expected job) }
-        ensures row { Puts need.now (Expected job) self.old self.new }
-        ensures right { IsRight self.new }
+        ensures row { PutsRow need.now (Expected job) self.old self.new }
+        ensures right { IsRightBook self.new }
     {
         match need {
             Need::Step { branch, mark } => {
@@ -72,7 +72,7 @@ impl Book<'_> {
         }
     }
 
-    /// Takes an answer of the book's table. Where a row expects its job, the row has the answer's
+    /// TakesAnswer an answer of the book's table. Where a row expects its job, the row has the answer's
     /// value, or expects nothing any more where the job gave up. What came of a step is kept, also
     /// where no row expects it any more.
     ///
@@ -86,7 +86,7 @@ impl Book<'_> {
         ensures freed { FreesOne self.old self.new answer result }
         ensures book { SameBook self.old self.new }
         ensures event { IsCollect answer self.old self.new result }
-        ensures right { IsRight self.new }
+        ensures right { IsRightBook self.new }
     {
         let parts = answer.into_parts();
         self.keep_fact(&parts);
@@ -97,12 +97,12 @@ impl Book<'_> {
         filled
     }
 
-    // Puts what came of a job in the row that expects it, if one does.
+    // PutsRow what came of a job in the row that expects it, if one does.
     fn take(&mut self, parts: Parts) -> Filled
         requires own { IsOf self.old.table parts.job.place }
         requires right { IsRightAnswer parts.job parts.limit (outcome_of parts.outcome) }
-        ensures takes { Takes (result_in parts) self.old self.new result }
-        ensures right { IsRight self.new }
+        ensures takes { TakesAnswer (result_in parts) self.old self.new result }
+        ensures right { IsRightBook self.new }
     {
         let Parts { job, outcome, .. } = parts;
         match self.expecting(job.number) {
@@ -121,7 +121,7 @@ impl Book<'_> {
             row_of self.new need ≡ cancelled number (row_of self.old need) }
         ensures book { SameBook self.old self.new }
         ensures event { IsCancel number self.old self.new }
-        ensures right { IsRight self.new }
+        ensures right { IsRightBook self.new }
     {
         let (need, place) = self.expecting(number)?;
         let place = place.share();
@@ -138,7 +138,7 @@ impl Book<'_> {
 
     /// Asks whoever works a job that is out to stop. Its answer is still expected.
     pub fn stop_all(&self)
-        ensures right { IsRight self.now }
+        ensures right { IsRightBook self.now }
     {
         raise_all(self.entries, &self.arrivals);
         raise_all(self.entries, &self.texts);
@@ -156,7 +156,7 @@ impl Book<'_> {
         ensures row { MatchOption result (NoneExpects self.now number)
             (λ row. Expects self.now number row.0 row.1.now) }
         ensures own { IfSome result (λ row. IsOf self.now.table row.1.now) }
-        ensures right { IsRight self.now }
+        ensures right { IsRightBook self.now }
     {
         if let Some((mark, place)) = row_for(&self.arrivals, number) {
             return Some((mark.step(), place));
@@ -165,12 +165,12 @@ impl Book<'_> {
         Some((Need::View { id: bookmark.id }, place))
     }
 
-    // Puts an outcome in the row of a need: a value, or nothing where there is none.
+    // PutsRow an outcome in the row of a need: a value, or nothing where there is none.
     fn fill_row(&mut self, need: Need, outcome: Outcome) -> Filled
         requires { CanBePut self.old need (given_by (outcome_of outcome)) }
         ensures filled { result ≡ filled_by (outcome_of outcome) }
-        ensures row { Puts need (given_by (outcome_of outcome)) self.old self.new }
-        ensures right { IsRight self.new }
+        ensures row { PutsRow need (given_by (outcome_of outcome)) self.old self.new }
+        ensures right { IsRightBook self.new }
     {
         match outcome {
             Outcome::Plane(plane) => self.put_plane(need, plane),
@@ -183,11 +183,11 @@ impl Book<'_> {
         Filled::Row
     }
 
-    // Puts a pattern in the row of a need, which is a step.
+    // PutsRow a pattern in the row of a need, which is a step.
     fn put_plane(&mut self, need: Need, plane: Arc<Plane>)
         requires { CanBePut self.old need (Known (pattern (arc_value plane))) }
-        ensures row { Puts need (Known (pattern (arc_value plane))) self.old self.new }
-        ensures right { IsRight self.new }
+        ensures row { PutsRow need (Known (pattern (arc_value plane))) self.old self.new }
+        ensures right { IsRightBook self.new }
     {
         let Need::Step { branch, mark } = need else {
             unreachable!("a view has a text")
@@ -195,11 +195,11 @@ impl Book<'_> {
         self.put_arrival(Mark::at(branch, mark), RowState::Known(Arrival::of(plane)));
     }
 
-    // Puts a text in the row of a need, which is a view.
+    // PutsRow a text in the row of a need, which is a view.
     fn put_bytes(&mut self, need: Need, bytes: Arc<Listing<u8>>)
         requires { CanBePut self.old need (Known (text (arc_value bytes))) }
-        ensures row { Puts need (Known (text (arc_value bytes))) self.old self.new }
-        ensures right { IsRight self.new }
+        ensures row { PutsRow need (Known (text (arc_value bytes))) self.old self.new }
+        ensures right { IsRightBook self.new }
     {
         let Need::View { id } = need else {
             unreachable!("a step has a pattern")
@@ -210,8 +210,8 @@ impl Book<'_> {
     // Expects nothing in the row of a need any more.
     fn release(&mut self, need: Need)
         requires { CanBePut self.old need Empty }
-        ensures row { Puts need Empty self.old self.new }
-        ensures right { IsRight self.new }
+        ensures row { PutsRow need Empty self.old self.new }
+        ensures right { IsRightBook self.new }
     {
         match need {
             Need::Step { branch, mark } => {
@@ -221,22 +221,22 @@ impl Book<'_> {
         }
     }
 
-    /// Puts what is known, or out, in the row of a mark. Only a job that is out makes nothing
+    /// PutsRow what is known, or out, in the row of a mark. Only a job that is out makes nothing
     /// ready.
     pub(crate) fn put_arrival(&mut self, mark: Mark, state: RowState<Arrival>)
         requires { CanBePut self.old (step_to mark) (state_map pattern state) }
-        ensures row { Puts (step_to mark) (state_map pattern state) self.old self.new }
-        ensures right { IsRight self.new }
+        ensures row { PutsRow (step_to mark) (state_map pattern state) self.old self.new }
+        ensures right { IsRightBook self.new }
     {
         self.cursor = self.cursor.if_stays(state.is_expected());
         put(&mut self.arrivals, mark.rank(), state);
     }
 
-    // Puts what is known, or out, in the row of a bookmark. Neither makes another row ready.
+    // PutsRow what is known, or out, in the row of a bookmark. Neither makes another row ready.
     fn put_text(&mut self, id: u64, state: RowState<Text>)
         requires { CanBePut self.old (Need.View id) (state_map text state) }
-        ensures row { Puts (Need.View id) (state_map text state) self.old self.new }
-        ensures right { IsRight self.new }
+        ensures row { PutsRow (Need.View id) (state_map text state) self.old self.new }
+        ensures right { IsRightBook self.new }
     {
         self.cursor = self.cursor.if_stays(!state.is_empty());
         put(&mut self.texts, u128::from(id), state);

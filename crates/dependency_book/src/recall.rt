@@ -1,12 +1,12 @@
 //! What was computed before.
 ghost use Rattle.std.specs.Prelude.{◌≡◌, ◌<◌, length, IsTrue};
-ghost use Rattle.revision_jobs.specs.Answer.{IsRight as IsRightAnswer, outcome_of};
+ghost use Rattle.revision_jobs.specs.Answer.{IsRightBook as IsRightAnswer, outcome_of};
 ghost use Rattle.revision_jobs.specs.Entries.{IsOf};
 ghost use Rattle.dependency_book.specs.BookState.{row_of};
 ghost use Rattle.desk_events.specs.Needs.{step_to};
 ghost use Rattle.dependency_book.specs.Needs.{IsLedTo};
-ghost use Rattle.dependency_book.specs.Recalled.{Recalls};
-ghost use Rattle.dependency_book.specs.Right.{IsGiven, IsRight};
+ghost use Rattle.dependency_book.specs.Recalled.{EntersSteps};
+ghost use Rattle.dependency_book.specs.Right.{IsGiven, IsRightBook};
 ghost use Rattle.dependency_book.specs.declared.row.RowState.TheVariants.{Empty};
 
 use crate::arrival::Arrival;
@@ -51,8 +51,8 @@ impl Book<'_> {
     /// is known and no job is out. No step leads to a row before the cursor. Where there is no memory
     /// for a look a row stays empty.
     pub(crate) fn recall_all(&mut self)
-        ensures recalls { Recalls self.old self.new }
-        ensures right { IsRight self.new }
+        ensures recalls { EntersSteps self.old self.new }
+        ensures right { IsRightBook self.new }
     {
         for place in self.cursor.steps..self.arrivals.len() {
             self.recall_at(place);
@@ -62,8 +62,8 @@ impl Book<'_> {
     // Enters it in the row at a place.
     fn recall_at(&mut self, place: usize)
         requires { place < length self.old.arrivals }
-        ensures recalls { Recalls self.old self.new }
-        ensures right { IsRight self.new }
+        ensures recalls { EntersSteps self.old self.new }
+        ensures right { IsRightBook self.new }
     {
         if !can_step(&self.document, &self.arrivals, place) {
             return;
@@ -76,8 +76,8 @@ impl Book<'_> {
     fn recall(&mut self, mark: Mark)
         requires led { IsLedTo self.old mark }
         requires empty { row_of self.old (step_to mark) ≡ Empty }
-        ensures recalls { Recalls self.old self.new }
-        ensures right { IsRight self.new }
+        ensures recalls { EntersSteps self.old self.new }
+        ensures right { IsRightBook self.new }
     {
         let Ok(step) = self.step_to(mark) else {
             return;

@@ -6,7 +6,7 @@ ghost use Rattle.desk_events.specs.Event.{MayBeAsked};
 ghost use Rattle.dependency_book.specs.Called.{IsEdit};
 ghost use Rattle.dependency_book.specs.Kept.{KeepsUnfelt};
 ghost use Rattle.dependency_book.specs.Recalled.{Revises};
-ghost use Rattle.dependency_book.specs.Right.{IsRight};
+ghost use Rattle.dependency_book.specs.Right.{IsRightBook};
 
 use crate::book::Book;
 use crate::cursor::Cursor;
@@ -46,7 +46,7 @@ impl Book<'_> {
         ensures first { IfSome (refusal self.old.plan (asked_of edit.now))
             (λ fault. result ≡ Err fault) }
         ensures unchanged { OnErr result (self.new ≡ self.old) }
-        ensures right { IsRight self.new }
+        ensures right { IsRightBook self.new }
     {
         note_rule(edit);
         let edited = self.remake(edit)?;
@@ -64,7 +64,7 @@ impl Book<'_> {
         ensures first { IfSome (refusal self.old.plan (asked_of edit.now))
             (λ fault. result ≡ Err fault) }
         ensures unchanged { OnErr result (self.new ≡ self.old) }
-        ensures right { IsRight self.new }
+        ensures right { IsRightBook self.new }
     {
         self.document.check(edit)?;
         let room = Room::beside(self.alloc, &self.document, edit)?;

@@ -3,7 +3,7 @@ ghost use Rattle.std.specs.Prelude.{◌≡◌, ◌≤◌, ◌+◌, IfOk, [], len
 ghost use Rattle.dependency_book.specs.Held.{places_of};
 ghost use Rattle.dependency_book.specs.Remade.{AreRemade};
 ghost use Rattle.schedule.specs.Asked.{asked_of};
-ghost use Rattle.dependency_book.specs.Room.{HasRoom, HasRoomAfter};
+ghost use Rattle.dependency_book.specs.Room.{HasPlaces, HasRoomAfter};
 ghost use Rattle.dependency_book.specs.RowState.{OutsAreOf};
 ghost use Rattle.dependency_book.specs.Rows.{IsRanked, bookmark_rank};
 ghost use Rattle.document_marks.specs.AllMarks.{mark_rank};
@@ -67,7 +67,7 @@ impl Room {
         texts: Vec<TextRow>,
         felt: Option<Mark>,
     ) -> Rows
-        requires room { HasRoom self
+        requires room { HasPlaces self
             (marks_at_most document.now) (length document.now.bookmarks) }
         requires ranked { IsRanked mark_rank arrivals.items × IsRanked bookmark_rank texts.items }
         requires own { OutsAreOf entries.now arrivals.items × OutsAreOf entries.now texts.items }

@@ -6,7 +6,7 @@ use Rattle.schedule.specs.Plan.{Plan}
 use Rattle.dependency_book.specs.BookState.{BookState}
 use Rattle.dependency_book.specs.ShownRows.{IsScratch, shown_row, shown_rows}
 use Rattle.desk_board.specs.declared.row.ShownRow.{ShownRow}
-use Rattle.desk_board.specs.Picture.{IsCurrent, IsRight, Picture, bookmarks_of, picture, picture_of, row_of}
+use Rattle.desk_board.specs.Picture.{IsCurrent, IsRightPicture, Picture, bookmarks_of, picture, picture_of, row_of}
 use Rattle.desk_board.specs.History.{History, ShowsNext, and_then}
 
 same_bookmarks : (d : BookState) (bs : List Bookmark) → bookmarks_of (map row_of (map (shown_row d) bs)) ≡ bs
@@ -17,7 +17,7 @@ all_current : (p : Plan) (rows : List (Bookmark × Option (List ℕ))) → AllBy
 all_current p [] right = tt
 all_current p (r ∷ rs) right = (right.0, all_current p rs right.1)
 
-pub right_picture : (d : BookState) → AllByRecursion (IsScratch d.plan) (shown_rows d) → IsRight (picture_of d)
+pub right_picture : (d : BookState) → AllByRecursion (IsScratch d.plan) (shown_rows d) → IsRightPicture (picture_of d)
 right_picture d right = record { bookmarks = same_bookmarks d d.plan.bookmarks; right = all_current d.plan (shown_rows d) right }
 
 -- the picture of its plan and of its rows, once none is left
@@ -27,6 +27,6 @@ whole_picture d p rows left same none is =
     ap₂ picture same all
 
 -- one snapshot of a desk is put behind a history
-pub shows_next : (old new : History) (s : Picture) (d : BookState) → s ≡ picture_of d → IsRight s → new ≡ and_then old s
+pub shows_next : (old new : History) (s : Picture) (d : BookState) → s ≡ picture_of d → IsRightPicture s → new ≡ and_then old s
     → ShowsNext old d new
-shows_next old new s d is right more = (subst IsRight is right, more ∙ ap (and_then old) is)
+shows_next old new s d is right more = (subst IsRightPicture is right, more ∙ ap (and_then old) is)

@@ -10,8 +10,8 @@ abbrev pub Knows : Option History → Book → Type 0
 Knows known board = (h : History) × (known ≡ Some h) × (h.board ≡ board)
 
 -- whatever a thread knows is of the board whose history the copies have
-abbrev pub Keeps : History → List (Option History) → Type 0
-Keeps x views =
+abbrev pub KeepsToOneBoard : History → List (Option History) → Type 0
+KeepsToOneBoard x views =
     (seat : ℕ) (v : Option History) → get_elem? views seat ≡ some v
     → IfSome v (λ h. h.board ≡ x.board)
 
@@ -20,7 +20,7 @@ abbrev pub Sees : Option History → History → History → Option History → 
 Sees v x y w = (w ≡ Some y) × ((board : Book) → Knows v board → y.board ≡ board)
 
 -- what is seen, and what the thread knows, is the history that the copy has
-pub record Shows (known : Option History) (copy seen : History) : Type 0 where
+pub record ShowsHistory (known : Option History) (copy seen : History) : Type 0 where
   pub knows : known ≡ Some copy
   pub shows : seen ≡ copy
 

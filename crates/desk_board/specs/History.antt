@@ -3,7 +3,7 @@ use Rattle.std.specs.Prelude.{◌≡◌, ◌<◌, List, [], ◌∷◌, ◌++◌,
 use mathlib.Core.List.{IsPrefix}
 use Rattle.logbook.specs.Pages.{Book}
 use Rattle.dependency_book.specs.BookState.{BookState}
-use Rattle.desk_board.specs.Picture.{Picture, IsRight, picture_of}
+use Rattle.desk_board.specs.Picture.{Picture, IsRightPicture, picture_of}
 
 -- a board, and its history as far as it is known
 pub record History : Type 0 where
@@ -23,7 +23,7 @@ and_then h s = history h.board (h.pictures ++ s ∷ [])
 
 -- the picture of the desk, whose texts are right, is put behind it
 abbrev pub ShowsNext : History → BookState → History → Type 0
-ShowsNext old d new = IsRight (picture_of d) × (new ≡ and_then old (picture_of d))
+ShowsNext old d new = IsRightPicture (picture_of d) × (new ≡ and_then old (picture_of d))
 
 -- the last snapshot is s
 abbrev pub EndsWith : History → Picture → Type 0

@@ -33,6 +33,6 @@ abbrev pub IsCurrent : Plan → ShownRow → Type 0
 IsCurrent p r = IfSome r.text (λ text. text ≡ scratch p r.bookmark)
 
 -- a row for each bookmark of the document in order, and each text is what starting over gives
-pub record IsRight (s : Picture) : Type 0 where
+pub record IsRightPicture (s : Picture) : Type 0 where
   pub bookmarks : bookmarks_of s.rows ≡ s.plan.bookmarks
   pub right : AllByRecursion (IsCurrent s.plan) s.rows

@@ -2,7 +2,7 @@
 //! it.
 ghost use Rattle.std.specs.Prelude.{[], None};
 ghost use base.Fml.{ftrue};
-ghost use Rattle.desk_board.specs.Log.{Adds, IsCounted};
+ghost use Rattle.desk_board.specs.Log.{AddsSnapshot, IsCountedBook};
 
 use crate::snapshots::Snapshot;
 use logbook::{Gain, Plain, Play, Rule, Seen, Word};
@@ -11,7 +11,7 @@ use logbook::{Gain, Plain, Play, Rule, Seen, Word};
 pub struct HistoryRule;
 
 impl Rule<Snapshot, u64> for HistoryRule {
-    ghost holds = { λ cells log. IsCounted cells log };
+    ghost holds = { λ cells log. IsCountedBook cells log };
 
     ghost first = { [] };
 
@@ -41,7 +41,7 @@ impl Gain<Snapshot, u64> for Nothing {
 pub struct Add;
 
 impl Play<Snapshot, u64> for Add {
-    ghost then = { Adds };
+    ghost then = { AddsSnapshot };
 }
 
 impl Plain<Snapshot, Snapshot, u64> for Add {

@@ -1,6 +1,6 @@
 //! The rule of the two copies, and what its steps tell.
 ghost use Rattle.std.specs.Prelude.{None};
-ghost use Rattle.desk_board.specs.Copies.{Keeps, Sees};
+ghost use Rattle.desk_board.specs.Copies.{KeepsToOneBoard, Sees};
 
 use crate::latest::Latest;
 use crate::receipt::Receipt;
@@ -14,7 +14,7 @@ pub type Known = Option<Receipt>;
 pub struct BoardRule;
 
 impl Protocol<Latest, Known> for BoardRule {
-    ghost holds = { Keeps };
+    ghost holds = { KeepsToOneBoard };
 
     ghost first = { None };
 }

@@ -25,11 +25,11 @@ impl Model for Seen {
 
     ghost coded = { Prim.hlevel (codes, coded_world) };
 
-    ghost use Rattle.desk_board.specs.Copies.{Shows};
+    ghost use Rattle.desk_board.specs.Copies.{ShowsHistory};
 
     ghost view = { λ s. s.receipt };
 
-    ghost invariant = { λ s. Shows s.reading.place.me.0.client s.reading.part.value s.receipt };
+    ghost invariant = { λ s. ShowsHistory s.reading.place.me.0.client s.reading.part.value s.receipt };
 }
 
 impl Seen {

@@ -1,6 +1,6 @@
 //! Snapshots.
 ghost use Rattle.std.specs.Prelude.{◌≡◌};
-ghost use Rattle.desk_board.specs.Picture.{IsRight, picture};
+ghost use Rattle.desk_board.specs.Picture.{IsRightPicture, picture};
 
 use crate::row::ShownRow;
 use schedule::Document;
@@ -23,17 +23,17 @@ impl Model for Snapshot {
 
     ghost coded = { Prim.hlevel (codes, coded_world) };
 
-    ghost use Rattle.desk_board.specs.Picture.{IsRight, picture};
+    ghost use Rattle.desk_board.specs.Picture.{IsRightPicture, picture};
 
     ghost view = { λ s. picture s.document s.rows.items };
 
-    ghost invariant = { λ s. IsRight (picture s.document s.rows.items) };
+    ghost invariant = { λ s. IsRightPicture (picture s.document s.rows.items) };
 }
 
 impl Snapshot {
     /// A document with rows that are right for it.
     pub fn of(document: Document, rows: Vec<ShownRow>) -> Snapshot
-        requires { IsRight (picture document rows.items) }
+        requires { IsRightPicture (picture document rows.items) }
         ensures { result ≡ picture document rows.items }
     {
         Snapshot { document, rows }
@@ -42,7 +42,7 @@ impl Snapshot {
     /// The document.
     pub fn document(&self) -> &Document
         ensures document { result.now ≡ self.now.plan }
-        ensures right { IsRight self.now }
+        ensures right { IsRightPicture self.now }
     {
         &self.document
     }
@@ -50,7 +50,7 @@ impl Snapshot {
     /// A row for each bookmark by rising id.
     pub fn rows(&self) -> &[ShownRow]
         ensures rows { result.now ≡ self.now.rows }
-        ensures right { IsRight self.now }
+        ensures right { IsRightPicture self.now }
     {
         &self.rows
     }

@@ -1,7 +1,7 @@
 //! The snapshot of a desk.
 ghost use Rattle.std.specs.Prelude.{◌≡◌, IfOk};
 ghost use Rattle.std.specs.Option.{option_map};
-ghost use Rattle.desk_board.specs.Picture.{IsRight, picture_of};
+ghost use Rattle.desk_board.specs.Picture.{IsRightPicture, picture_of};
 
 use crate::row::ShownRow;
 use crate::snapshots::Snapshot;
@@ -12,7 +12,7 @@ use std::alloc::{AllocError, Global};
 /// The texts are shared and not copied, in one pass over the desk's rows.
 pub fn snapshot(alloc: Global, desk: &Desk<'_>) -> Result<Snapshot, AllocError>
     ensures desk { IfOk result (λ snapshot. snapshot ≡ picture_of desk.now) }
-    ensures right { IfOk result IsRight }
+    ensures right { IfOk result IsRightPicture }
 {
     let mut rows = Vec::with_capacity(alloc, desk.document().bookmarks().len())?;
     for (bookmark, text) in desk.rows() {

@@ -15,7 +15,7 @@ use Rattle.dependency_book.specs.Jobs.{cancelled}
 use Rattle.desk_events.specs.Needs.{is_need}
 use Rattle.dependency_book.specs.BookState.{BookState, given_of, row_of}
 use Rattle.dependency_book.specs.Needs.{IsNext}
-use Rattle.dependency_book.specs.Right.{IsRight}
+use Rattle.dependency_book.specs.Right.{IsRightBook}
 use Rattle.desk_core.specs.declared.cause.Cause.{Cause}
 use Rattle.desk_core.specs.declared.issue.IssueFault.{IssueFault}
 use Rattle.desk_core.specs.Cause.{cause_of_issue}
@@ -79,7 +79,7 @@ HasFed-taken first old new need job p q r taken issued sends h =
     }
 
 -- a job that is cancelled leaves the rows as they were before it was issued
-pub rows-undone : (old mid new : BookState) (need : Need) (job : Job) → IssuesFor old mid job need → IsRight mid
+pub rows-undone : (old mid new : BookState) (need : Need) (job : Job) → IssuesFor old mid job need → IsRightBook mid
     → ((other : Need) → row_of new other ≡ cancelled job.number (row_of mid other)) → (other : Need)
     → row_of new other ≡ row_of old other
 rows-undone old mid new need job issued right rows other =
@@ -99,7 +99,7 @@ rows-undone old mid new need job issued right rows other =
 fed : (first new : BookState) (p q : PostView) (taken : ℕ) (refused : Option IssueFault) (cause : Option Cause)
     → ((told : Option Cause) → IsCauseOf refused told → told ≡ cause) → Serves first p
     → Comes (stage first p (at_rest None)) (stage new q (at_rest cause))
-    → ((need : Need) → (row_of first need ≡ Empty) ⊎ (row_of new need ≡ row_of first need)) → IsRight new
+    → ((need : Need) → (row_of first need ≡ Empty) ⊎ (row_of new need ≡ row_of first need)) → IsRightBook new
     → q.floor ≡ floor_after p.floor (given_of first) taken → q.answers ≡ p.answers
     → FedUntil p q first new taken refused → FeedsOn p q first new taken refused
 fed first new p q taken refused cause alone serves comes stays right floor silent ended =
@@ -120,16 +120,16 @@ fed first new p q taken refused cause alone serves comes stays right floor silen
     }
 
 -- no more job was issued
-pub fed-ended : (first old new : BookState) (p q : PostView) (taken : ℕ) → IsNext old None → new ≡ old → IsRight new
+pub fed-ended : (first old new : BookState) (p q : PostView) (taken : ℕ) → IsNext old None → new ≡ old → IsRightBook new
     → HasFed first old p q taken → FeedsOn p q first new taken None
 fed-ended first old new p q taken next same right h =
     subst (λ d. FeedsOn p q first d taken None) (sym same)
-    (fed first old p q taken None None (λ told is. is) h.began h.comes h.stays (subst IsRight same right)
+    (fed first old p q taken None None (λ told is. is) h.began h.comes h.stays (subst IsRightBook same right)
     h.floor h.silent (inl (record { given = h.given; asked = h.asked }, next)))
 
 -- an issue was refused
 pub fed-unissued : (first old new : BookState) (p q : PostView) (taken : ℕ) (fault : IssueFault)
-    → RefusesIssue old new fault → IsRight new → HasFed first old p q taken → FeedsOn p q first new taken (Some fault)
+    → RefusesIssue old new fault → IsRightBook new → HasFed first old p q taken → FeedsOn p q first new taken (Some fault)
 fed-unissued first old new p q taken fault refuses right h =
     let bars = barred old new fault refuses in
     let cause = Some (cause_of_issue fault) in
@@ -144,8 +144,8 @@ fed-unissued first old new p q taken fault refuses right h =
 
 -- the last job wasn't taken
 pub fed-refused : (first old mid new : BookState) (need : Need) (job : Job) (p q r : PostView) (taken : ℕ) (said : Sent)
-    → IssuesFor old mid job need → IsRight mid → Cancels job.number mid new → (said ≡ Taken → ⊥) → Sends job q r said
-    → HasFed first old p q taken → IsRight new → FeedsOn p r first new taken None
+    → IssuesFor old mid job need → IsRightBook mid → Cancels job.number mid new → (said ≡ Taken → ⊥) → Sends job q r said
+    → HasFed first old p q taken → IsRightBook new → FeedsOn p r first new taken None
 fed-refused first old mid new need job p q r taken said issued middle cancels other sends h right =
     let idles = Idles-refused job q r said other sends in
     let none = at_rest None in

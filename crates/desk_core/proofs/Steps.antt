@@ -12,10 +12,10 @@ use Rattle.revision_jobs.specs.Entries.{IsOf}
 use Rattle.revision_jobs.specs.Posted.{IsOwnAnswer, PostView, Receives, Sends}
 use Rattle.desk_events.specs.declared.need.Need.{Need}
 use Rattle.dependency_book.specs.Jobs.{SameBook, SameDocument}
-use Rattle.dependency_book.specs.BookState.{BookState, given_of, expected, row_of, wanting_of}
+use Rattle.dependency_book.specs.BookState.{BookState, given_of, expected, row_of, empty_rows_of}
 use Rattle.dependency_book.specs.Recalled.{Fills}
 use Rattle.dependency_book.specs.RowState.{job_of}
-use Rattle.dependency_book.specs.Right.{IsRight}
+use Rattle.dependency_book.specs.Right.{IsRightBook}
 use Rattle.dependency_book.specs.declared.row.Row.{Row}
 use Rattle.dependency_book.specs.Rows.{keys}
 use Rattle.dependency_book.proofs.Shared.Settled.{few_rows}
@@ -26,10 +26,10 @@ use Rattle.desk_core.specs.declared.issue.IssueFault.{IssueFault}
 use Rattle.desk_core.specs.declared.progress.Progress.{Progress}
 use Rattle.desk_core.specs.declared.unsent.Unsent.TheVariants.{Nothing}
 use Rattle.desk_core.specs.Collected.{IsCollected}
-use Rattle.desk_core.specs.Progress.{CancelsAny, Fits, GoesOn, HasCome, Stage, job_in, ready, stage}
+use Rattle.desk_core.specs.Progress.{CancelsAny, CanSendNext, GoesOn, HasCome, Stage, job_in, ready, stage}
 use Rattle.desk_core.specs.Cause.{cause_of_answer, cause_of_issue}
 use Rattle.desk_core.specs.Issued.{IssuesFor, RefusesIssue}
-use Rattle.desk_core.specs.Settling.{Explains, GivesAtMost, Keeps, KeepsKnown, SawStop, Serves, ServesOn, Settles, TellsCause}
+use Rattle.desk_core.specs.Settling.{Explains, GivesAtMost, KeepsWhatIsKnown, KeepsKnown, SawStop, Serves, ServesOn, Settles, TellsCause}
 use Rattle.desk_core.proofs.Shared.Causes.{explains-kept, explains-refused, explains-released, saw-on, saw-refused, saw-released}
 use Rattle.desk_core.proofs.Known.{KeepsKnown-cancelled, KeepsKnown-filled, KeepsKnown-stays, stays-issued}
 use Rattle.desk_core.proofs.Out.{cancelled_out, filled_out, held_alone, issued_out, not_numbered}
@@ -148,7 +148,7 @@ GoesOn-issued old new post p need job was none issued =
     newly without h = grind arith
 
     fits : given_of new ≡ given_of old + 1 → job.number ≡ given_of old → IsOf old.table job.place
-        → new.table ≡ old.table → Fits old post (job_in p.unsent) → Fits new post (Some job)
+        → new.table ≡ old.table → CanSendNext old post (job_in p.unsent) → CanSendNext new post (Some job)
     fits one is own table fit = grind arith
 
 -- no job is issued or sent, and no answer comes: what is out was so before, and of it is to be sent what was
@@ -181,7 +181,7 @@ lost most old new post p q known document given more none out cause told = recor
   };
 }
   where
-    fits : (u v : Option Job) → ((job : Job) → v ≡ Some job → u ≡ Some job) → Fits old post u → Fits new post v
+    fits : (u v : Option Job) → ((job : Job) → v ≡ Some job → u ≡ Some job) → CanSendNext old post u → CanSendNext new post v
     fits u v none fit = let table = document.table in grind arith
 
     still : {u v : Option Job} {job : Job} {f : ℕ} {A : Type 0} → (u ≡ Some job → v ≡ Some job)
@@ -314,13 +314,13 @@ GoesOn-sent d p q progress job sends none = grind arith
 -- after an answer that isn't that a job gave up no more rows are wanting
 pub wanting-collected : (old new : BookState) (answer : JobResult) (collected : Collected)
     → ((fault : EvolveFault) → collected ≡ Released fault → ⊥) → IsCollected old new answer collected
-    → wanting_of new ≤ wanting_of old
+    → empty_rows_of new ≤ empty_rows_of old
 wanting-collected old new answer collected kept h = grind arith
 
 -- what a settling leaves that has nothing left to send
 
 pub Keeps-come : (first d : BookState) (begun post : PostView) (progress : Progress) → progress.unsent ≡ Nothing
-    → HasCome first begun (stage d post progress) → Keeps first d post
+    → HasCome first begun (stage d post progress) → KeepsWhatIsKnown first d post
 Keeps-come first d begun post progress none h = grind arith
 
 pub ServesOn-come : (first d : BookState) (begun post : PostView) (progress : Progress) → progress.unsent ≡ Nothing
@@ -340,7 +340,7 @@ module _ (first mid last : BookState) (begun post : PostView) (p : Progress)
   pub whole : HasCome first begun (stage last post end)
   whole = (GoesOn-cancelled mid last post p end cancels refl refl).comes first begun come
 
-  pub settles-whole : (turns : ℕ) → GivesAtMost turns first mid → IsRight last → Settles first last turns post
+  pub settles-whole : (turns : ℕ) → GivesAtMost turns first mid → IsRightBook last → Settles first last turns post
   settles-whole turns given right =
       let same = same_given (given_up (job_in p.unsent) mid last cancels).0 in
       let few = few_rows last right in

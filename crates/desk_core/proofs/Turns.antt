@@ -8,7 +8,7 @@ use Rattle.revision_jobs.specs.Posted.{PostView}
 use Rattle.dependency_book.specs.RowState.{is_empty}
 use Rattle.dependency_book.specs.Rows.{ArrivalRow, TextRow}
 use Rattle.dependency_book.specs.Jobs.{IsAnyOut}
-use Rattle.dependency_book.specs.BookState.{BookState, expected, pending_of, wanting_of, NothingOut}
+use Rattle.dependency_book.specs.BookState.{BookState, expected, pending_of, empty_rows_of, NothingOut}
 use Rattle.desk_core.specs.declared.cause.Cause.{Cause}
 use Rattle.desk_core.specs.declared.progress.Progress.{Progress}
 use Rattle.desk_core.specs.declared.settling.Settling.{Settling}
@@ -23,7 +23,7 @@ pub nears_on : (s mid t : Stage) (next : ControlFlow Unit Unit) → turns_at mid
 nears_on s mid t next h k = grind arith
 
 nearer : (s t : Stage) (next : ControlFlow Unit Unit) → next ≡ Continue tt → t.post.held ≡ None
-    → wanting_of t.desk ≤ wanting_of s.desk
+    → empty_rows_of t.desk ≤ empty_rows_of s.desk
     → turns_for t.progress.unsent None < turns_for s.progress.unsent s.post.held → Nears s t next
 nearer s t next goes held wanting fewer = grind arith
 
@@ -102,7 +102,7 @@ ended-at_end turns begun s t next ends asks = grind arith
 -- a settling that leaves some pending has a cause
 pub cause-left : (old new : BookState) (post : PostView) (progress : Progress) (pending : ℕ)
     → IsDoneBy (stage old post progress) → CancelsAny (job_in progress.unsent) old new → pending ≡ pending_of new
-    → (NothingOut new → wanting_of new ≡ 0 → pending ≡ 0) → 0 < pending → IsSome progress.cause
+    → (NothingOut new → empty_rows_of new ≡ 0 → pending ≡ 0) → 0 < pending → IsSome progress.cause
 cause-left old new post progress pending done cancels count none some = grind arith
 
 -- and where it has none, the post is over or was asked in every turn

@@ -10,7 +10,7 @@ use Rattle.dependency_book.specs.Core.{core_of}
 use Rattle.dependency_book.specs.RowState.{has_number}
 use Rattle.dependency_book.specs.Said.{answer_said}
 use Rattle.dependency_book.specs.Jobs.{IsExpected, StepExpects, is_job}
-use Rattle.dependency_book.specs.BookState.{BookState, expected, wanting_of}
+use Rattle.dependency_book.specs.BookState.{BookState, expected, empty_rows_of}
 use Rattle.desk_core.specs.declared.collect.Collected.{Collected}
 use Rattle.desk_core.specs.declared.collect.Collected.TheVariants.{Accepted, Released, Stale}
 
@@ -18,7 +18,7 @@ use Rattle.desk_core.specs.declared.collect.Collected.TheVariants.{Accepted, Rel
 pub record IsAccepted (old new : BookState) (answer : JobResult) : Type 0 where
   pub expected : IsExpected old answer.job
   pub value : IsOk answer.outcome
-  pub wanting : wanting_of new ≤ wanting_of old
+  pub wanting : empty_rows_of new ≤ empty_rows_of old
 
 -- a row expects the job of an answer that says why there is no value: want of room only of a step
 -- that has none at the limit that the job was worked with

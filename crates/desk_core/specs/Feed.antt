@@ -6,17 +6,17 @@ use Rattle.dependency_book.specs.declared.row.RowState.TheVariants.{Empty}
 use Rattle.dependency_book.specs.Jobs.{SameDocument}
 use Rattle.dependency_book.specs.BookState.{BookState, given_of, row_of}
 use Rattle.dependency_book.specs.Needs.{IsNext}
-use Rattle.dependency_book.specs.Right.{IsRight}
+use Rattle.dependency_book.specs.Right.{IsRightBook}
 use Rattle.desk_core.specs.declared.issue.IssueFault.{IssueFault}
 use Rattle.desk_core.specs.Issued.{RefusesIssue}
-use Rattle.desk_core.specs.Settling.{Keeps}
+use Rattle.desk_core.specs.Settling.{KeepsWhatIsKnown}
 
 -- the floor of a post that took so many jobs, with the numbers from a first one on
 abbrev pub floor_after : ℕ → ℕ → ℕ → ℕ
 floor_after before first taken = if taken == 0 then before else first + taken
 
 -- so many numbers were given, and the post was asked as often
-pub record AsksFor (p q : PostView) (old new : BookState) (count : ℕ) : Type 0 where
+pub record AsksForNumbers (p q : PostView) (old new : BookState) (count : ℕ) : Type 0 where
   pub given : given_of new ≡ given_of old + count
   pub asked : q.asked ≡ p.asked + count
 
@@ -29,17 +29,17 @@ pub record RefusesFirst (old new : BookState) (fault : IssueFault) : Type 0 wher
 -- why a feeding by which so many jobs were taken ended: a job couldn't be issued, for this reason;
 -- nothing is to be computed next; or one more job was sent and not taken
 abbrev pub FedUntil : PostView → PostView → BookState → BookState → ℕ → Option IssueFault → Type 0
-FedUntil p q old new taken (Some fault) = AsksFor p q old new taken × RefusesFirst old new fault
+FedUntil p q old new taken (Some fault) = AsksForNumbers p q old new taken × RefusesFirst old new fault
 FedUntil p q old new taken None =
-    (AsksFor p q old new taken × IsNext new None) ⊎ AsksFor p q old new (taken + 1)
+    (AsksForNumbers p q old new taken × IsNext new None) ⊎ AsksForNumbers p q old new (taken + 1)
 
 -- so many jobs were taken, whose numbers are those from the first that was given on; whatever stood
 -- in a row stands there still, no answer was given, and feeding ended for this refusal, if for one
 pub record Feeds (p q : PostView) (old new : BookState) (taken : ℕ) (refused : Option IssueFault)
     : Type 0 where
   pub stays : (need : Need) → (row_of old need ≡ Empty) ⊎ (row_of new need ≡ row_of old need)
-  pub keeps : Keeps old new q
-  pub right : IsRight new
+  pub keeps : KeepsWhatIsKnown old new q
+  pub right : IsRightBook new
   pub floor : q.floor ≡ floor_after p.floor (given_of old) taken
   pub document : SameDocument old new
   pub silent : q.answers ≡ p.answers

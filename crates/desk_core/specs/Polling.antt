@@ -2,13 +2,13 @@
 use Rattle.std.specs.Prelude.{◌≡◌, ◌⊎◌, ℕ, ◌+◌, ◌≤◌, length, Option, Some, None}
 use Rattle.revision_jobs.specs.Posted.{PostView}
 use Rattle.dependency_book.specs.BookState.{BookState, given_of, pending_of}
-use Rattle.dependency_book.specs.Right.{IsRight}
+use Rattle.dependency_book.specs.Right.{IsRightBook}
 use Rattle.desk_core.specs.declared.cause.Cause.{Cause}
 use Rattle.desk_core.specs.declared.issue.IssueFault.{IssueFault}
 use Rattle.desk_core.specs.declared.polling.Polled.{Polled}
 use Rattle.desk_core.specs.Cause.{cause_of_issue}
 use Rattle.desk_core.specs.Feed.{Feeds}
-use Rattle.desk_core.specs.Settling.{Keeps, ServesOn, TellsCause}
+use Rattle.desk_core.specs.Settling.{KeepsWhatIsKnown, ServesOn, TellsCause}
 
 -- answers were collected until the post had none, or 64, and no number was given; the cause that is
 -- met, if one is, is that of an answer
@@ -17,7 +17,7 @@ pub record Collects (p q : PostView) (old new : BookState) (cause : Option Cause
   pub all : (q.asked ≡ p.asked + (length told.later + 1)) ⊎ (64 ≤ length told.later)
   pub given : given_of new ≡ given_of old
   pub refused : old.refused ≤ new.refused
-  pub keeps : Keeps old new q
+  pub keeps : KeepsWhatIsKnown old new q
   pub serves : ServesOn p q old new
 
 -- the cause that is told, if one is, is the refusal of an issue
@@ -41,4 +41,4 @@ pub record Polls (p q : PostView) (old new : BookState) (polled : Polled) : Type
   pub collects : Collects p post old desk met
   pub feeds : FeedsUnless met post q desk new polled.cause
   pub pending : polled.pending ≡ pending_of new
-  pub right : IsRight new
+  pub right : IsRightBook new

@@ -10,7 +10,7 @@ use Rattle.revision_jobs.specs.Posted.{PostView, Receives as ReceivesOf}
 use Rattle.revision_jobs.specs.declared.post.Received.TheVariants.{Answer}
 use Rattle.desk_events.specs.declared.need.Need.{Need}
 use Rattle.dependency_book.specs.Jobs.{SameBook, SameDocument, cancelled}
-use Rattle.dependency_book.specs.BookState.{BookState, given_of, row_of, expected, pending_of, wanting_of, NothingOut}
+use Rattle.dependency_book.specs.BookState.{BookState, given_of, row_of, expected, pending_of, empty_rows_of, NothingOut}
 use Rattle.desk_core.specs.declared.cause.Cause.{Cause}
 use Rattle.desk_core.specs.declared.issue.IssueFault.{IssueFault}
 use Rattle.desk_core.specs.declared.progress.Progress.{Progress}
@@ -48,7 +48,7 @@ abbrev pub ready : Job → Progress → Progress
 ready job progress = record { unsent = Ready job; cause = progress.cause }
 
 -- the post serves the desk, and the job that isn't sent yet can be sent to it
-pub record Fits (d : BookState) (post : PostView) (next : Option Job) : Type 0 where
+pub record CanSendNext (d : BookState) (post : PostView) (next : Option Job) : Type 0 where
   pub serves : Serves d post
   pub unsent : IfSome next (CanBeSent d post.floor)
 
@@ -66,7 +66,7 @@ IsAccounted first floor unsent need job =
 -- whatever was out, each is at hand
 pub record KeepsJobs (first : BookState) (begun : PostView) (d : BookState) (post : PostView)
     (unsent : Option Job) : Type 0 where
-  pub fits : Fits d post unsent
+  pub fits : CanSendNext d post unsent
   pub out : (need : Need) (job : Job) → expected d need ≡ Some job
       → IsAccounted first post.floor unsent need job
   pub at_hand : HoldsAllOut first begun → IsAtHand unsent post.held d
@@ -99,7 +99,7 @@ pub record HasCome (first : BookState) (begun : PostView) (s : Stage) : Type 0 w
 
 -- the post fits the desk, and the job that isn't sent yet
 abbrev pub IsFit : Stage → Type 0
-IsFit s = Fits s.desk s.post (job_in s.progress.unsent)
+IsFit s = CanSendNext s.desk s.post (job_in s.progress.unsent)
 
 -- whatever settling came to the first stage comes to the second
 abbrev pub Comes : Stage → Stage → Type 0
@@ -158,7 +158,7 @@ turns_for (Waiting job) held = 3
 
 -- how many turns a settling over a prompt post takes at most from here
 abbrev pub turns_from : BookState → Unsent → Option Job → ℕ
-turns_from d unsent held = 3 * wanting_of d + turns_for unsent held
+turns_from d unsent held = 3 * empty_rows_of d + turns_for unsent held
 
 abbrev pub turns_at : Stage → ℕ
 turns_at s = turns_from s.desk s.progress.unsent s.post.held
@@ -191,11 +191,11 @@ pub record Frees (s t : Stage) (next : ControlFlow Unit Unit) : Type 0 where
   pub held : t.post.held ≡ None
   pub goes_on : next ≡ Continue tt
   pub unsent : t.progress.cause ≡ None → t.progress.unsent ≡ s.progress.unsent
-  pub wanting : t.progress.cause ≡ None → wanting_of t.desk ≤ wanting_of s.desk
+  pub wanting : t.progress.cause ≡ None → empty_rows_of t.desk ≤ empty_rows_of s.desk
 
 -- every bookmark is current, or will be seen to be since nothing is out and nothing wanting
 abbrev pub IsDone : BookState → Type 0
-IsDone d = (pending_of d ≡ 0) ⊎ (NothingOut d × (wanting_of d ≡ 0))
+IsDone d = (pending_of d ≡ 0) ⊎ (NothingOut d × (empty_rows_of d ≡ 0))
 
 -- where a settling ends without a cause, nothing is left to send and every bookmark current
 abbrev pub IsDoneBy : Stage → Type 0

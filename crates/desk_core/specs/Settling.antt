@@ -11,7 +11,7 @@ use Rattle.revision_jobs.specs.Value.{Value}
 use Rattle.desk_events.specs.declared.need.Need.{Need}
 use Rattle.dependency_book.specs.declared.row.RowState.TheVariants.{Known}
 use Rattle.dependency_book.specs.BookState.{BookState, given_of, row_of, expected, pending_of}
-use Rattle.dependency_book.specs.Right.{IsRight}
+use Rattle.dependency_book.specs.Right.{IsRightBook}
 use Rattle.desk_core.specs.declared.cause.Cause.{Cause}
 use Rattle.desk_core.specs.declared.cause.Cause.TheVariants.{NoMemory, NoRoom, Stopped, NumbersSpent}
 use Rattle.desk_core.specs.declared.settling.Settling.{Settling}
@@ -64,13 +64,13 @@ pub record Serves (d : BookState) (post : PostView) : Type 0 where
   pub numbers : post.floor ≤ given_of d
 
 -- each job that is out is the one that a post holds
-abbrev pub IsHeld : Option Job → BookState → Type 0
-IsHeld held d = (need : Need) (job : Job) → expected d need ≡ Some job → held ≡ Some job
+abbrev pub HoldsJobsOut : Option Job → BookState → Type 0
+HoldsJobsOut held d = (need : Need) (job : Job) → expected d need ≡ Some job → held ≡ Some job
 
 -- a post is prompt, and holds whatever is out
 pub record HoldsAllOut (d : BookState) (post : PostView) : Type 0 where
   pub prompt : post.is_prompt ≡ true
-  pub held : IsHeld post.held d
+  pub held : HoldsJobsOut post.held d
 
 -- a post that served the one desk serves the other, at its limit and of its kind; if it held
 -- whatever was out it does so still
@@ -97,7 +97,7 @@ OutOrSent old new floor =
 
 -- what was known is so still, what is out was so before or was sent to the post, and the document
 -- and the table are the same
-pub record Keeps (old new : BookState) (post : PostView) : Type 0 where
+pub record KeepsWhatIsKnown (old new : BookState) (post : PostView) : Type 0 where
   pub known : KeepsKnown old new
   pub out : OutOrSent old new post.floor
   pub plan : new.plan ≡ old.plan
@@ -110,8 +110,8 @@ GivesAtMost most old new = (given_of old ≤ given_of new) × (given_of new ≤ 
 -- settling for so many turns keeps what it has to, gives at most a number a turn, and all is right;
 -- no document has more rows than 1,000,000 turns are enough for
 pub record Settles (old new : BookState) (turns : ℕ) (post : PostView) : Type 0 where
-  pub keeps : Keeps old new post
-  pub right : IsRight new
+  pub keeps : KeepsWhatIsKnown old new post
+  pub right : IsRightBook new
   pub given : GivesAtMost turns old new
   pub enough : 4 * rows_of old ≤ 1000000
 

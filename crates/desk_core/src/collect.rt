@@ -5,7 +5,7 @@ ghost use Rattle.dependency_book.specs.BookState.{row_of};
 ghost use Rattle.dependency_book.specs.Called.{IsCancel};
 ghost use Rattle.dependency_book.specs.Jobs.{cancelled, IsAnyOut, IsFirstOut, SameBook};
 ghost use Rattle.dependency_book.specs.Recalled.{Fills};
-ghost use Rattle.dependency_book.specs.Right.{IsRight};
+ghost use Rattle.dependency_book.specs.Right.{IsRightBook};
 ghost use Rattle.desk_events.specs.declared.need.Need.{Need};
 ghost use Rattle.desk_core.specs.Collected.{IsCollected, IsEvent, IsOut};
 
@@ -39,7 +39,7 @@ impl Desk<'_> {
         ensures fills { Fills answer self.old self.new }
         ensures book { SameBook self.old self.new }
         ensures event { IsEvent self.old self.new answer result }
-        ensures right { IsRight self.new }
+        ensures right { IsRightBook self.new }
     {
         let number = answer.number();
         match self.book.fill(answer) {
@@ -60,7 +60,7 @@ impl Desk<'_> {
             row_of self.new need ≡ cancelled number (row_of self.old need) }
         ensures book { SameBook self.old self.new }
         ensures event { IsCancel number self.old self.new }
-        ensures right { IsRight self.new }
+        ensures right { IsRightBook self.new }
     {
         let Some(place) = self.book.forget(number) else {
             return false;
@@ -72,7 +72,7 @@ impl Desk<'_> {
     /// Asks whoever works a job that is out to stop. Its answer is still expected, and nothing that
     /// is known is lost.
     pub fn stop_all(&self)
-        ensures right { IsRight self.now }
+        ensures right { IsRightBook self.now }
     {
         self.book.stop_all();
     }

@@ -3,7 +3,7 @@ ghost use Rattle.std.specs.Prelude.{◌≡◌, ◌≤◌, IfOk, IfErr, IfSome, O
 ghost use Rattle.schedule.specs.Asked.{asked_of};
 ghost use Rattle.schedule.specs.Change.{refusal};
 ghost use Rattle.dependency_book.specs.BookState.{given_of, opened, pending_of};
-ghost use Rattle.dependency_book.specs.Right.{IsRight};
+ghost use Rattle.dependency_book.specs.Right.{IsRightBook};
 ghost use Rattle.dependency_book.specs.Shown.{Shows};
 ghost use Rattle.desk_core.specs.Edited.{Makes, Refuses};
 
@@ -42,7 +42,7 @@ impl<'e> Desk<'e> {
     /// many steps are kept with what came of them, and at least one.
     pub fn open(alloc: Global, entries: &'e Entries, facts: u32) -> Result<Desk<'e>, AllocError>
         ensures opened { IfOk result (λ desk. desk ≡ opened entries.now 0) }
-        ensures right { IfOk result IsRight }
+        ensures right { IfOk result IsRightBook }
     {
         let facts = NonZeroUsize::new(facts as usize).unwrap_or(NonZeroUsize::MIN);
         Ok(Desk {
@@ -67,7 +67,7 @@ impl<'e> Desk<'e> {
         ensures first { IfSome (refusal self.old.plan (asked_of edit.now))
             (λ fault. result ≡ Err fault) }
         ensures unchanged { OnErr result (self.new ≡ self.old) }
-        ensures right { IsRight self.new }
+        ensures right { IsRightBook self.new }
     {
         self.book.revise(edit)
     }
@@ -84,7 +84,7 @@ impl<'e> Desk<'e> {
     pub fn pending(&self) -> u32
         ensures count { result ≡ pending_of self.now }
         ensures bound { result ≤ length self.now.plan.bookmarks }
-        ensures right { IsRight self.now }
+        ensures right { IsRightBook self.now }
     {
         self.book.pending()
     }

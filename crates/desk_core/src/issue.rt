@@ -2,7 +2,7 @@
 ghost use Rattle.std.specs.Prelude.{◌≡◌, ◌<◌, Some, IfOk, IfErr, OnErr};
 ghost use Rattle.dependency_book.specs.BookState.{given_of, row_of};
 ghost use Rattle.dependency_book.specs.Needs.{IsNext};
-ghost use Rattle.dependency_book.specs.Right.{IsRight};
+ghost use Rattle.dependency_book.specs.Right.{IsRightBook};
 ghost use Rattle.dependency_book.specs.declared.row.RowState.TheVariants.{Empty};
 ghost use Rattle.desk_core.specs.Issued.{IsIssued, IssuesFor, RefusesIssue};
 
@@ -48,7 +48,7 @@ impl Desk<'_> {
     pub fn issue(&mut self, rt: &impl Wait) -> Result<Option<Job>, IssueFault>
         ensures issued { IfOk result (IsIssued self.old self.new) }
         ensures refused { IfErr result (RefusesIssue self.old self.new) }
-        ensures right { IsRight self.new }
+        ensures right { IsRightBook self.new }
     {
         let Some(need) = self.book.next_need() else {
             return Ok(None);
@@ -73,7 +73,7 @@ impl Desk<'_> {
         requires number { (number ≡ given_of self.old) × (number < 16777216) }
         ensures issued { IfOk result (λ job. IssuesFor self.old self.new job need.now) }
         ensures unchanged { OnErr result (self.new ≡ self.old) }
-        ensures right { IsRight self.new }
+        ensures right { IsRightBook self.new }
     {
         let entry = self.book.entry(need)?;
         let place = self.entries.push(rt, entry)?;

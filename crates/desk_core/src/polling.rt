@@ -1,7 +1,7 @@
 //! Polling a post: what has come is collected, and what is needed next is sent.
 ghost use Rattle.desk_core.specs.Polling.{IsCauseOf, Polls};
 ghost use Rattle.desk_core.specs.Progress.{CollectsOn};
-ghost use Rattle.desk_core.specs.Settling.{Keeps, Serves, ServesOn, TellsCause};
+ghost use Rattle.desk_core.specs.Settling.{KeepsWhatIsKnown, Serves, ServesOn, TellsCause};
 
 use crate::cause::Cause;
 use crate::desk::Desk;
@@ -27,7 +27,7 @@ pub struct Polled {
 /// issues and sends what is needed next, as `feed` does. It waits for no answer.
 ///
 /// What was known stays so, a job that is out was out before or was sent, and document and table
-/// are the same (`Keeps`); the post serves the desk still (`ServesOn`). The cause is that of an
+/// are the same (`KeepsWhatIsKnown`); the post serves the desk still (`ServesOn`). The cause is that of an
 /// answer that came, or of the issue that was refused (`TellsCause`). Answers are collected until
 /// the post has none, or 64, and jobs sent until nothing is needed, an issue is refused or one
 /// isn't taken (`Polls`).
@@ -36,7 +36,7 @@ pub struct Polled {
 /// polls and edits before it alone.
 pub fn poll<P: Post>(rt: &impl Wait, desk: &mut Desk<'_>, post: &mut P) -> Polled
     requires { Serves desk.old (P.view post.old) }
-    ensures keeps { Keeps desk.old desk.new (P.view post.new) }
+    ensures keeps { KeepsWhatIsKnown desk.old desk.new (P.view post.new) }
     ensures post { ServesOn (P.view post.old) (P.view post.new) desk.old desk.new }
     ensures cause { TellsCause (P.view post.old) (P.view post.new) desk.old desk.new result.cause }
     ensures polls { Polls (P.view post.old) (P.view post.new) desk.old desk.new result }

@@ -1,9 +1,9 @@
 //! The progress of a settling.
 ghost use Rattle.std.specs.Prelude.{◌≡◌, ◌≤◌, ◌*◌, ◌+◌, None, Some, true};
 ghost use Rattle.revision_jobs.specs.Entries.{IsOf};
-ghost use Rattle.dependency_book.specs.BookState.{wanting_of};
+ghost use Rattle.dependency_book.specs.BookState.{empty_rows_of};
 ghost use Rattle.desk_core.specs.Looks.{LooksIfAnswered, LooksOn};
-ghost use Rattle.desk_core.specs.Progress.{Advances, Asks, Fits, Frees, GoesOn, GoesOnBy};
+ghost use Rattle.desk_core.specs.Progress.{Advances, Asks, CanSendNext, Frees, GoesOn, GoesOnBy};
 ghost use Rattle.desk_core.specs.Progress.{GoesOnWith, HasCome, IsDoneBy, RunsOut, SeesAll};
 ghost use Rattle.desk_core.specs.Progress.{TakesNoMore, job_in, ready, stage};
 ghost use Rattle.desk_core.specs.Settling.{GivesAtMost, HoldsAllOut, Serves, rows_of};
@@ -75,7 +75,7 @@ impl Progress {
         post: &mut P,
         onlooker: &mut O,
     ) -> ControlFlow<()>
-        requires { Fits desk.old (P.view post.old) (job_in self.old.unsent) }
+        requires { CanSendNext desk.old (P.view post.old) (job_in self.old.unsent) }
         ensures goes { GoesOn 1 (stage desk.old (P.view post.old) self.old)
             (stage desk.new (P.view post.new) self.new) }
         ensures asks { Asks (stage desk.old (P.view post.old) self.old)
@@ -97,7 +97,7 @@ impl Progress {
         post: &mut P,
         onlooker: &mut O,
     ) -> ControlFlow<()>
-        requires fits { Fits desk.old (P.view post.old) (job_in self.old.unsent) }
+        requires fits { CanSendNext desk.old (P.view post.old) (job_in self.old.unsent) }
         requires sees { SeesAll desk.old self.old }
         ensures goes { GoesOn 0 (stage desk.old (P.view post.old) self.old)
             (stage desk.new (P.view post.new) self.new) }
@@ -143,7 +143,7 @@ impl Progress {
 
     // Hands a job on. A post that takes none any more ends the settling.
     fn send<P: Post>(&mut self, desk: &mut Desk<'_>, post: &mut P, job: Job) -> ControlFlow<()>
-        requires fits { Fits desk.old (P.view post.old) (Some job) }
+        requires fits { CanSendNext desk.old (P.view post.old) (Some job) }
         requires none { self.old.unsent ≡ Unsent.Nothing }
         ensures goes { GoesOn 0 (stage desk.old (P.view post.old) (ready job self.old))
             (stage desk.new (P.view post.new) self.new) }
@@ -174,7 +174,7 @@ impl Progress {
         post: &mut P,
         onlooker: &mut O,
     ) -> ControlFlow<()>
-        requires { Fits desk.old (P.view post.old) (job_in self.old.unsent) }
+        requires { CanSendNext desk.old (P.view post.old) (job_in self.old.unsent) }
         ensures goes { GoesOn 0 (stage desk.old (P.view post.old) self.old)
             (stage desk.new (P.view post.new) self.new) }
         ensures asks { Asks (stage desk.old (P.view post.old) self.old)
@@ -202,7 +202,7 @@ impl Progress {
         requires { IsOf desk.old.table answer.job.place }
         ensures goes { GoesOnWith answer desk.old desk.new self.old self.new }
         ensures same { self.new.cause ≡ None → self.new.unsent ≡ self.old.unsent }
-        ensures wanting { self.new.cause ≡ None → wanting_of desk.new ≤ wanting_of desk.old }
+        ensures wanting { self.new.cause ≡ None → empty_rows_of desk.new ≤ empty_rows_of desk.old }
         ensures none { self.old.unsent ≡ Unsent.Nothing → self.new.unsent ≡ Unsent.Nothing }
     {
         if let Collected::Released(fault) = desk.collect(answer) {

@@ -12,7 +12,7 @@ use Rattle.script_lines.specs.declared.kept_line.KeptLine.{KeptLine}
 use Rattle.std.specs.Io.KnownBytes.{IsAtEnd}
 use Rattle.desk_script.specs.Command.{command_of, format_of}
 use Rattle.desk_script.specs.Asks.{Take, Refuse, asked_by, Between, InText}
-use Rattle.desk_script.specs.Heard.{AsksFor, Hears, BreaksOff}
+use Rattle.desk_script.specs.Heard.{IsReadAs, Hears, BreaksOff}
 use Rattle.desk_script.specs.declared.fault.ScriptFault.TheVariants.{NoEnd}
 use Rattle.desk_script.specs.declared.format.Format.{Format}
 use Rattle.desk_script.specs.declared.request.Request.{Request}
@@ -21,7 +21,7 @@ use Rattle.desk_script.proofs.Shared.Asks.{asks-text, asks-open_text, asks-comma
 
 pub hears-command : (old new : Ahead) (kept : KeptLine) (last : Bool) (r : Request) (n k : ℕ) → k ≡ n
     → (t : LineTaken last old new kept) → is_passed_over t.line.says ≡ false → format_of t.line.says ≡ None
-    → AsksFor r (asked_by k (command_of t.line.says)) → Hears old new Between (Some r) last n (n + 1)
+    → IsReadAs r (asked_by k (command_of t.line.says)) → Hears old new Between (Some r) last n (n + 1)
 hears-command old new kept last r n k same t passed text is = record {
   bytes = t.line.raw;
   asked = asked_by k (command_of t.line.says) ∷ [];

@@ -1,10 +1,10 @@
 -- What was heard of a script: the next thing that is asked, if there is one.
 use Rattle.std.specs.Prelude.{◌≡◌, ℕ, List, [], ◌∷◌, ◌++◌, Bool, true, Option, None, Some, ⊤}
 use Rattle.std.specs.Io.KnownBytes.{IsAtEnd}
-use Rattle.script_lines.specs.Ahead.{Ahead, Takes, LineReading, IsDrawn}
+use Rattle.script_lines.specs.Ahead.{Ahead, TakesBytes, LineReading, IsDrawn}
 use Rattle.script_lines.specs.Input.{FailsOrFull}
 use Rattle.text_lines.specs.Lines.{End, Broken, lines_until}
-use Rattle.script_lines.specs.Script.{Follows}
+use Rattle.script_lines.specs.Script.{MayFollow}
 use Rattle.script_lines.specs.Text.{IsText}
 use Rattle.desk_script.specs.Asks.{Ask, Obey, Take, Refuse, asks, asked_by, Place, Between}
 use Rattle.desk_script.specs.declared.command.Command.{Command}
@@ -29,17 +29,17 @@ abbrev pub LineCanLackMemory : Option Command → Type 0
 LineCanLackMemory command = (n : ℕ) → CanLackMemory (asked_by n command)
 
 -- what a request asks: this, or something that is out of memory
-abbrev pub AsksFor : Request → Ask → Type 0
-AsksFor (request.Obey command) ask = ask ≡ Obey command
-AsksFor (request.Take format text) ask =
+abbrev pub IsReadAs : Request → Ask → Type 0
+IsReadAs (request.Obey command) ask = ask ≡ Obey command
+IsReadAs (request.Take format text) ask =
     (bytes : List ℕ) × (ask ≡ Take format bytes) × IsText text bytes
-AsksFor (request.Refuse fault) ask = ask ≡ Refuse fault
-AsksFor request.NoMemory ask = CanLackMemory ask
+IsReadAs (request.Refuse fault) ask = ask ≡ Refuse fault
+IsReadAs request.NoMemory ask = CanLackMemory ask
 
 -- nothing was asked, or what the request asks
 abbrev pub AsksIfAny : Option Request → List Ask → Type 0
 AsksIfAny None asked = asked ≡ []
-AsksIfAny (Some r) asked = (ask : Ask) × (asked ≡ ask ∷ []) × AsksFor r ask
+AsksIfAny (Some r) asked = (ask : Ask) × (asked ≡ ask ∷ []) × IsReadAs r ask
 
 -- bytes were taken that ask for `asked` from this place on, whatever may follow them; they begin on
 -- line n, and what follows begins on line m
@@ -47,8 +47,8 @@ pub record Hears (old new : Ahead) (place : Place) (heard : Option Request) (las
     : Type 0 where
   pub bytes : List ℕ
   pub asked : List Ask
-  pub taken : Takes old new bytes
-  pub law : (stop : End) (more : List ℕ) → Follows last stop more
+  pub taken : TakesBytes old new bytes
+  pub law : (stop : End) (more : List ℕ) → MayFollow last stop more
       → asks stop place n (lines_until stop (bytes ++ more))
       ≡ asked ++ asks stop Between m (lines_until stop more)
   pub is : AsksIfAny heard asked
@@ -57,7 +57,7 @@ pub record Hears (old new : Ahead) (place : Place) (heard : Option Request) (las
 -- the reading broke off before anything more was asked
 pub record BreaksOff (old new : Ahead) (place : Place) (n : ℕ) : Type 0 where
   pub bytes : List ℕ
-  pub taken : Takes old new bytes
+  pub taken : TakesBytes old new bytes
   pub law : asks Broken place n (lines_until Broken bytes) ≡ []
 
 -- a read failed, or 2^64 - 1 bytes came, and all that was read was taken

@@ -4,7 +4,7 @@ ghost use Rattle.script_lines.specs.Ahead.{Ahead};
 ghost use Rattle.script_lines.specs.Script.{LineTaken};
 ghost use Rattle.desk_script.specs.Command.{command_of};
 ghost use Rattle.desk_script.specs.Asks.{Between, InText, asked_by};
-ghost use Rattle.desk_script.specs.Heard.{AsksFor, Hears, BreaksOff, ReadFails};
+ghost use Rattle.desk_script.specs.Heard.{IsReadAs, Hears, BreaksOff, ReadFails};
 
 use crate::command::read_command;
 use crate::fault::ScriptFault;
@@ -24,7 +24,7 @@ pub struct Heard {
 
 // What the words of a line ask, which no text follows.
 fn read_request(alloc: Global, words: &[u8], number: u64) -> Request
-    ensures { AsksFor result (asked_by number (command_of words.now)) }
+    ensures { IsReadAs result (asked_by number (command_of words.now)) }
 {
     match read_command(alloc, words) {
         Ok(Some(command)) => Request::Obey(command),

@@ -18,8 +18,8 @@ use Rattle.desk_events.specs.Marks.{mark_at}
 use Rattle.dependency_book.specs.BookState.{BookState, row_of, expected, opened, pending_of, NothingOut}
 use Rattle.desk_core.specs.declared.cause.Cause.{Cause}
 use Rattle.revision_jobs.specs.Posted.{PostView}
-use Rattle.desk_core.specs.Settling.{Explains, IsHeld, IsWhy, SawStop, ServesOn}
-use Rattle.desk_server.specs.Jobs.{Carries, CarriesOn, IsFresh, DropsJobs, IsDoneWith, KeepsCauses}
+use Rattle.desk_core.specs.Settling.{Explains, HoldsJobsOut, IsWhy, SawStop, ServesOn}
+use Rattle.desk_server.specs.Jobs.{PostMatchesDesk, CarriesOn, IsFresh, DropsJobs, IsDoneWith, KeepsCauses}
 use Rattle.std.proofs.Common.{length}
 use Rattle.desk_core.proofs.Shared.Given.{same_given}
 
@@ -76,11 +76,11 @@ edit_drops asked old new h = record {
 }
 
 -- at the beginning
-none_opened : (table : Entries) (held : Option Job) → IsHeld held (opened table 0)
+none_opened : (table : Entries) (held : Option Job) → HoldsJobsOut held (opened table 0)
 none_opened table held need job e = grind (arith, out_of_map)
 
 pub carries_first : (post : PostView) (entries : Entries) (d : BookState) → d ≡ opened entries 0 → IsFresh post entries
-    → Carries post d
+    → PostMatchesDesk post d
 carries_first post entries d same fresh = rw same (record {
   serves = record { table = fresh.own; numbers = subst (λ n. n ≤ 0) (sym fresh.none) (omega arith) };
   out = λ _. none_opened entries post.held;
@@ -112,7 +112,7 @@ pub none_untold : (cause : Option Cause) (fact : Type 0) → IsSome cause → If
 none_untold cause fact some = grind (arith)
 
 -- a post that serves the desk on carries on
-pub carries_served : (first last : PostView) (old new : BookState) → Carries first old → ServesOn first last old new
+pub carries_served : (first last : PostView) (old new : BookState) → PostMatchesDesk first old → ServesOn first last old new
     → CarriesOn first last new
 carries_served first last old new c s = grind (arith)
 

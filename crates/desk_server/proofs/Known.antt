@@ -7,7 +7,7 @@ use Rattle.std.proofs.lemmas.Bool.Decides.{nat_tests}
 use Rattle.std.proofs.lemmas.List.Sums.{sum_by-cons}
 use Rattle.schedule.specs.declared.document.Bookmark.{Bookmark}
 use Rattle.dependency_book.specs.BookState.{BookState, is_pending, pending_of}
-use Rattle.dependency_book.specs.Right.{IsRight}
+use Rattle.dependency_book.specs.Right.{IsRightBook}
 use Rattle.dependency_book.specs.RowState.{known, is_known}
 use Rattle.dependency_book.specs.Rows.{TextRow, keys, state_at, bookmark_rank}
 use Rattle.dependency_book.specs.ShownRows.{shown_row}
@@ -45,6 +45,6 @@ each_text : (d : BookState) (bs : List Bookmark) → AllByRecursion (IsFound d.t
 each_text d [] found = tt
 each_text d (b ∷ bs) found = (found.0, each_text d bs found.1)
 
-pub all_known : (d : BookState) → IsRight d → pending_of d ≡ 0 → AllKnown d
+pub all_known : (d : BookState) → IsRightBook d → pending_of d ≡ 0 → AllKnown d
 all_known d right none =
     each_text d d.plan.bookmarks (subst (AllByRecursion (IsFound d.texts)) right.bookmarks (each_found d.texts none))

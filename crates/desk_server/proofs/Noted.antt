@@ -5,7 +5,7 @@ use Rattle.revision_jobs.specs.Posted.{PostView}
 use Rattle.dependency_book.specs.BookState.{BookState}
 use Rattle.desk_core.specs.Looks.{LooksOn}
 use Rattle.desk_script.specs.Asks.{Ask, Obey}
-use Rattle.desk_script.specs.Heard.{AsksFor}
+use Rattle.desk_script.specs.Heard.{IsReadAs}
 use Rattle.desk_script.specs.declared.command.Command.{Command}
 use Rattle.desk_script.specs.declared.fault.ScriptFault.{ScriptFault}
 use Rattle.desk_script.specs.declared.format.Format.{Format}
@@ -14,7 +14,7 @@ use Rattle.desk_script.specs.declared.request.Request.TheVariants as request
 use Rattle.desk_server.specs.Answer.{After}
 use Rattle.desk_server.specs.Script.{Answered}
 use Rattle.desk_server.specs.Told.{TellsPending, IsRefused, reply_text, ends}
-use Rattle.desk_server.specs.Watch.{HasToCompute, AsksForAnswers, Draws, WatchesReply, Moment, moment, NotesOrCounts, NotesEach, WatchesNext}
+use Rattle.desk_server.specs.Watch.{HasToCompute, AsksForAnswers, Draws, WatchesReply, Moment, moment, PublishedOrCounted, NotesEach, WatchesNext}
 use Rattle.script_lines.specs.declared.text.Text.{Text}
 use Rattle.desk_server.specs.declared.reply.Reply.{Reply}
 
@@ -59,21 +59,21 @@ module _ {V : Type 0} (notes : V → BookState → V → Type 0) where
   -- what a request asks
   pub looked_obeyed : (asked : Request) (command : Command) (r : Reply) (p q : PostView) (d e : BookState) (a b : V)
       → asked ≡ request.Obey command → WatchesReply notes (Obey command) r p q d e a b
-      → (ask : Ask) → AsksFor asked ask → WatchesReply notes ask r p q d e a b
+      → (ask : Ask) → IsReadAs asked ask → WatchesReply notes ask r p q d e a b
   looked_obeyed asked command r p q d e a b is looked ask asks = grind (arith)
 
   pub looked_taken : (asked : Request) (format : Format) (text : Text) (r : Reply) (p : PostView) (d e : BookState)
       (a : V) → asked ≡ request.Take format text
-      → (ask : Ask) → AsksFor asked ask → WatchesReply notes ask r p p d e a a
+      → (ask : Ask) → IsReadAs asked ask → WatchesReply notes ask r p p d e a a
   looked_taken asked format text r p d e a is ask asks = grind (arith, draws_none, unwatched)
 
   pub looked_refused : (asked : Request) (fault : ScriptFault) (r : Reply) (p : PostView) (d e : BookState) (a : V)
       → asked ≡ request.Refuse fault
-      → (ask : Ask) → AsksFor asked ask → WatchesReply notes ask r p p d e a a
+      → (ask : Ask) → IsReadAs asked ask → WatchesReply notes ask r p p d e a a
   looked_refused asked fault r p d e a is ask asks = grind (arith, draws_none, unwatched)
 
   pub looked_none : (r : Reply) (p : PostView) (d e : BookState) (a : V) (asked : Request) → IsRefused r
-      → (ask : Ask) → AsksFor asked ask → WatchesReply notes ask r p p d e a a
+      → (ask : Ask) → IsReadAs asked ask → WatchesReply notes ask r p p d e a a
   looked_none r p d e a asked refused ask asks = grind (arith, draws_none, unwatched)
 
   pub unwatched_next : (a : Moment V) (later : List Answered) → WatchesNext notes a later a.post a.seen
@@ -81,7 +81,7 @@ module _ {V : Type 0} (notes : V → BookState → V → Type 0) where
 
   pub notes_one : (a b : Moment V) (w : V) (ask : Ask) (r : Reply)
       → WatchesReply notes ask r a.post b.post a.desk b.desk a.seen w → TellsPending r b.desk
-      → NotesOrCounts notes a.missed b.missed w b.desk b.seen → NotesEach notes a b ((ask, after_of b.desk r) ∷ [])
+      → PublishedOrCounted notes a.missed b.missed w b.desk b.seen → NotesEach notes a b ((ask, after_of b.desk r) ∷ [])
   notes_one a b w ask r before pending noted = (
     b,
     record { reply = r; gives = refl; pending = pending; watched = w; before = before; noted = noted },

@@ -15,7 +15,7 @@ use Rattle.dependency_book.specs.declared.shown.Shown.{Shown}
 use Rattle.dependency_book.specs.declared.shown.Shown.TheVariants.{Current, NoSuch}
 use Rattle.dependency_book.specs.declared.shown.Shown.TheVariants as shown
 use Rattle.desk_script.specs.Asks.{Ask, Refuse}
-use Rattle.desk_script.specs.Heard.{CanLackMemory, AsksFor}
+use Rattle.desk_script.specs.Heard.{CanLackMemory, IsReadAs}
 use Rattle.desk_script.specs.declared.fault.ScriptFault.{ScriptFault}
 use Rattle.desk_script.specs.declared.format.Format.{Format}
 use Rattle.desk_script.specs.declared.command.Command.{Command}
@@ -29,14 +29,14 @@ use Rattle.desk_server.specs.Answer.{shown as shown_by}
 use Rattle.desk_server.specs.Reply.{pending_text, refused_text}
 use Rattle.revision_jobs.specs.Posted.{PostView}
 use Rattle.desk_server.specs.Told.{PollsBy, reply_text, ends, shown_text}
-use Rattle.desk_server.specs.Served.{Gives, GivesBy, GivesOrLacks, KeepsTaken, KeepsText, Serves, TakesText, kept_text, session}
+use Rattle.desk_server.specs.Served.{GivesAnswer, GivesAnswerBy, RepliesOrNoMemory, KeepsTaken, KeepsText, AnswersRequest, TakesText, kept_text, session}
 use Rattle.script_lines.specs.declared.text.Text.{Text}
 use Rattle.desk_server.specs.declared.reply.Reply.{Reply}
 use Rattle.desk_server.specs.declared.reply.Reply.TheVariants as reply
 
 -- a reply that changes nothing
 pub gives-only : (p : Plan) (new : BookState) (r : Reply) (told : List ℕ) → new.plan ≡ p → reply_text new r ≡ told
-    → ends r ≡ false → Gives (only p told) r new
+    → ends r ≡ false → GivesAnswer (only p told) r new
 gives-only p new r told same is goes = grind (arith)
 
 -- what was refused, or is out of memory
@@ -44,7 +44,7 @@ pub gives-refused : {A E : Type 0} (p : Plan) (new : BookState) (r : Reply) (tol
     (fault none : E) (read : Result A E)
     → told none ≡ of_edit NoMemory → new.plan ≡ p → (fault ≡ none) ⊎ (read ≡ Err fault)
     → ((k : BookState) → reply_text k r ≡ refused_text (told fault)) → ends r ≡ false
-    → GivesOrLacks p (unless_fault p told done read) r new
+    → RepliesOrNoMemory p (unless_fault p told done read) r new
 gives-refused p new r told done fault none read law same (inl memory) is goes =
     (Memory, λ _. tt, grind (arith, gives-only, is new))
 gives-refused p new r told done fault none read law same (inr refused) is goes =
@@ -53,13 +53,13 @@ gives-refused p new r told done fault none read law same (inr refused) is goes =
 -- settling that left bookmarks pending
 pub gives-unsettled : (prompt : Bool) (p : Plan) (new : BookState) (n : ℕ) (cause : Option Cause) → new.plan ≡ p
     → (prompt ≡ true → IfNone cause (pending_of new ≡ 0)) → n ≡ pending_of new → n ≢ 0 → n ≤ length new.plan.bookmarks
-    → GivesBy prompt (λ short. settled short p) (reply.Unsettled n cause) new
+    → GivesAnswerBy prompt (λ short. settled short p) (reply.Unsettled n cause) new
 gives-unsettled prompt p new n cause same caused is some few =
     (Unsettled n cause, grind (arith), grind (arith, nat_tests))
 
 -- a poll
 pub gives_polled : (prompt : Bool) (p : Plan) (new : BookState) (n : ℕ) (cause : Option Cause) → new.plan ≡ p
-    → n ≤ length new.plan.bookmarks → GivesBy prompt (λ short. polled short p) (reply.Polled n cause) new
+    → n ≤ length new.plan.bookmarks → GivesAnswerBy prompt (λ short. polled short p) (reply.Polled n cause) new
 gives_polled prompt p new n cause same few = (Still n cause, λ _. tt, grind (arith, nat_tests))
 
 some_of : (o : Option Bookmark) → IsSome o → (b : Bookmark) × (o ≡ Some b)
@@ -72,13 +72,13 @@ pending-shown known id h = grind (arith, some_of)
 
 -- what is shown of a bookmark, current or not
 pub gives-shown : (prompt : Bool) (p : Plan) (new : BookState) (id : ℕ) (s : Shown) → new.plan ≡ p → Shows new id s
-    → GivesBy prompt (λ short. shown_by short p id (bookmark_in p.bookmarks id)) (reply.Shown id) new
+    → GivesAnswerBy prompt (λ short. shown_by short p id (bookmark_in p.bookmarks id)) (reply.Shown id) new
 gives-shown prompt p new id s same shows =
-    subst (λ q. GivesBy prompt (λ short. shown_by short q id (bookmark_in q.bookmarks id))
+    subst (λ q. GivesAnswerBy prompt (λ short. shown_by short q id (bookmark_in q.bookmarks id))
     (reply.Shown id) new) same (now s shows)
   where
     now : (s : Shown) → Shows new id s
-        → GivesBy prompt (λ short. shown_by short new.plan id (bookmark_in new.plan.bookmarks id)) (reply.Shown id) new
+        → GivesAnswerBy prompt (λ short. shown_by short new.plan id (bookmark_in new.plan.bookmarks id)) (reply.Shown id) new
     now NoSuch none = (NoShortage, λ _. tt, grind (arith))
     now (Current text) h = (NoShortage, λ _. tt, grind (arith))
     now shown.Pending h = (Pending, λ _. tt, grind (arith, some_of))
@@ -93,14 +93,14 @@ lacks ask s can = grind (arith)
 
 -- memory was short for what was asked
 pub serves-memory : (prompt : Bool) (asked : Request) (r : Reply) (d : BookState) (rule : Option (List ℕ))
-    → ((ask : Ask) → AsksFor asked ask → CanLackMemory ask) → reply_text d r ≡ refused_text (of_edit NoMemory)
-    → ends r ≡ false → Serves prompt asked r (session d rule) d
+    → ((ask : Ask) → IsReadAs asked ask → CanLackMemory ask) → reply_text d r ≡ refused_text (of_edit NoMemory)
+    → ends r ≡ false → AnswersRequest prompt asked r (session d rule) d
 serves-memory prompt asked r d rule can is goes =
     λ ask asks. (Memory, λ _. tt, grind (arith, gives-only, lacks ask (session d rule) (can ask asks)))
 
 -- what is out of it already can
-pub none-lacks : (asked : Request) → asked ≡ request.NoMemory → (ask : Ask) → AsksFor asked ask → CanLackMemory ask
-none-lacks asked e ask asks = subst (λ q. AsksFor q ask) e asks
+pub none-lacks : (asked : Request) → asked ≡ request.NoMemory → (ask : Ask) → IsReadAs asked ask → CanLackMemory ask
+none-lacks asked e ask asks = subst (λ q. IsReadAs q ask) e asks
 
 plainly_refused : (s : Session) (fault : ScriptFault)
     → answer NoShortage s (Refuse fault) ≡ refused s.plan (of_script fault)
@@ -109,7 +109,7 @@ plainly_refused s fault = grind (arith)
 -- what lines say was refused
 pub serves-refused : (prompt : Bool) (asked : Request) (fault : ScriptFault) (r : Reply) (d : BookState)
     (rule : Option (List ℕ)) → asked ≡ request.Refuse fault → reply_text d r ≡ refused_text (of_script fault)
-    → ends r ≡ false → Serves prompt asked r (session d rule) d
+    → ends r ≡ false → AnswersRequest prompt asked r (session d rule) d
 serves-refused prompt asked fault r d rule e is goes =
     λ ask asks. (NoShortage, λ _. tt, grind (arith, gives-only, plainly_refused))
 
@@ -121,7 +121,7 @@ polled_goes_on p q old new r h = grind (arith)
 pub serves_taken : (prompt : Bool) (asked : Request) (format : Format) (text : Text) (r : Reply)
     (old new : BookState)
     (rule : Option (List ℕ)) → asked ≡ request.Take format text → TakesText format text r old new
-    → Serves prompt asked r (session old rule) new
+    → AnswersRequest prompt asked r (session old rule) new
 serves_taken prompt asked format text r old new rule e takes = grind (arith)
 
 -- its bytes are kept if they are a rule's that was taken, and then there are some

@@ -4,13 +4,13 @@ use Rattle.std.specs.Prelude.{zip}
 use Rattle.basics.proofs.Shared.Lists.{all_append}
 use Rattle.std.proofs.lemmas.List.Concat.{flat_map-append}
 use Rattle.std.proofs.KnownBytes.{Appends-nil, Appends-trans, Consumes-nil}
-use Rattle.script_lines.specs.Ahead.{Ahead, Takes, LineReading}
+use Rattle.script_lines.specs.Ahead.{Ahead, TakesBytes, LineReading}
 use Rattle.script_lines.specs.Counted.{CountedWriting}
 use Rattle.script_lines.proofs.Shared.Ahead.{takes_none, takes_then}
 use Rattle.std.specs.Io.KnownBytes.{Consumes, Appends, IsAtEnd}
 use Rattle.text_lines.specs.Lines.{End, Ended, Broken, lines_until}
 use Rattle.script_lines.specs.Faults.{AppendsFront}
-use Rattle.script_lines.specs.Script.{Follows}
+use Rattle.script_lines.specs.Script.{MayFollow}
 use Rattle.script_lines.proofs.Shared.Told.{front_first, front_then}
 use Rattle.schedule.specs.Plan.{opening}
 use Rattle.dependency_book.specs.BookState.{BookState}
@@ -23,7 +23,7 @@ use Rattle.desk_server.specs.Answer.{Session, opening_session, rule_text_after, 
 use Rattle.revision_jobs.specs.Posted.{PostView}
 use Rattle.desk_server.specs.Script.{Answered, afters, answered, answered_with, first_shortage, later_shortages, unless_bye, but_bye, texts_of, told_to, replies_to, replies_with}
 use Rattle.desk_server.specs.Told.{reply_text, ends}
-use Rattle.desk_server.specs.Served.{KeepsText, session, Gives, Serves, Served}
+use Rattle.desk_server.specs.Served.{KeepsText, session, GivesAnswer, AnswersRequest, Served}
 use Rattle.desk_server.specs.Run.{Answers, Finishes, StopsTelling, AnswersWhole, AnswersAll, AnswersFront}
 use Rattle.desk_server.specs.Ending.{Works, Completes}
 use Rattle.desk_server.specs.Watch.{Moment, moment, NotesFront, NotesEach, NotesScript, NotesReplies, WatchesNext, WatchesReply}
@@ -51,7 +51,7 @@ at_end_nil : (new : Option (List ℕ)) (rest : List ℕ) → IsAtEnd new → new
 at_end_nil new rest h e = grind (arith)
 
 follows_nothing : (last : Bool) (new : Option (List ℕ)) (rest : List ℕ) → (last ≡ true → IsAtEnd new) → new ≡ Some rest
-    → Follows last Ended rest
+    → MayFollow last Ended rest
 follows_nothing last new rest h e = grind (arith, at_end_nil)
 
 -- one that was answered, with what is left after its reply
@@ -64,7 +64,7 @@ zip_none (k ∷ ks) = refl
 
 -- the answer to one command, and those to the rest
 after_is : (short : Shortage) (s : Session) (ask : Ask) (r : Reply) (k : BookState) (t : Option (List ℕ))
-    → Gives (answer short s ask) r k → t ≡ rule_text_after s ask k.plan → (rest : List Ask) (later : List Shortage)
+    → GivesAnswer (answer short s ask) r k → t ≡ rule_text_after s ask k.plan → (rest : List Ask) (later : List Shortage)
     → answered s (ask ∷ rest) (short ∷ later) ≡ one_of ask k r ∷ cond (ends r) [] (answered (session k t) rest later)
 after_is short s ask r k t e kept rest later = grind (arith, zip_none)
 
@@ -94,7 +94,7 @@ replies_told p (ask ∷ rest) shortages =
 module _ (noted : List Answered → Type 0) (prompt : Bool) (old new : Ahead) (told : Option (List ℕ))
     (heard : Option Request) (last : Bool) (k : Session) (n m : ℕ) (notes : noted []) (none : heard ≡ None)
     (h : Hears old new Between heard last n m) where
-  silent : (stop : End) (more : List ℕ) → Follows last stop more
+  silent : (stop : End) (more : List ℕ) → MayFollow last stop more
       → asks stop Between n (lines_until stop (h.bytes ++ more)) ≡ asks stop Between m (lines_until stop more)
   silent stop more f = grind (arith, h.law)
 
@@ -127,7 +127,7 @@ module _ (noted : List Answered → Type 0) (prompt : Bool) (old new : Ahead) (t
 -- one thing was asked, and the reply to it found
 pub served : (prompt : Bool) (heard : Option Request) (request : Request) (asked : List Ask) (j : Session)
     (k : BookState) (t : Option (List ℕ)) (r : Reply) → heard ≡ Some request → AsksIfAny heard asked
-    → Serves prompt request r j k → KeepsText request j k t → Served prompt request r asked j k t
+    → AnswersRequest prompt request r j k → KeepsText request j k t → Served prompt request r asked j k t
 served prompt heard request asked j k t r e is gives keeps = grind (arith)
 
 module _ (prompt : Bool) (old new : Ahead) (heard : Option Request) (last : Bool) (j : Session)
@@ -138,7 +138,7 @@ module _ (prompt : Bool) (old new : Ahead) (heard : Option Request) (last : Bool
   behind stop more later = answered (session k t) (asks stop Between m (lines_until stop more)) later
 
   -- the answers from here on
-  afters_from : (stop : End) (more : List ℕ) (later : List Shortage) → Follows last stop more
+  afters_from : (stop : End) (more : List ℕ) (later : List Shortage) → MayFollow last stop more
       → answered j (asks stop Between n (lines_until stop (h.bytes ++ more))) (s.2.0 ∷ later)
       ≡ one_of s.0 k r ∷ cond (ends r) [] (behind stop more later)
   afters_from stop more later f = grind (arith, after_is, h.law)
@@ -279,7 +279,7 @@ answers_none noted prompt a b x p q n notes e same = record {
   shortages = [];
   caused = λ _. tt;
   given = [];
-  taken = subst (λ o. Takes a o []) (sym e) (takes_none a);
+  taken = subst (λ o. TakesBytes a o []) (sym e) (takes_none a);
   wrote = Appends-nil x;
   notes = notes;
   law = λ stop more later. ap (λ r. answered r (asks stop Between n (lines_until stop more)) later) (sym same);

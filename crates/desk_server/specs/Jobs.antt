@@ -7,7 +7,7 @@ use Rattle.revision_jobs.specs.Posted.{PostView}
 use Rattle.desk_events.specs.declared.need.Need.{Need}
 use Rattle.dependency_book.specs.BookState.{given_of, BookState, expected, pending_of, NothingOut}
 use Rattle.desk_core.specs.declared.cause.Cause.{Cause}
-use Rattle.desk_core.specs.Settling.{Explains, IsHeld, Serves}
+use Rattle.desk_core.specs.Settling.{Explains, HoldsJobsOut, Serves}
 
 -- a post of the table that took no job
 pub record IsFresh (post : PostView) (entries : Entries) : Type 0 where
@@ -16,16 +16,16 @@ pub record IsFresh (post : PostView) (entries : Entries) : Type 0 where
 
 -- a post of the desk's table that took only numbers that the desk gave; if it is prompt it holds
 -- whatever job is out
-pub record Carries (post : PostView) (d : BookState) : Type 0 where
+pub record PostMatchesDesk (post : PostView) (d : BookState) : Type 0 where
   pub serves : Serves d post
-  pub out : post.is_prompt ≡ true → IsHeld post.held d
+  pub out : post.is_prompt ≡ true → HoldsJobsOut post.held d
 
 -- the post is of the kind that it was and at its limit, and carries the jobs of the desk that is
 -- left
 pub record CarriesOn (old new : PostView) (d : BookState) : Type 0 where
   pub limit : new.limit ≡ old.limit
   pub kind : new.is_prompt ≡ old.is_prompt
-  pub carries : Carries new d
+  pub carries : PostMatchesDesk new d
 
 -- nothing is left to compute, or no job is out
 abbrev pub IsDoneWith : BookState → Type 0

@@ -1,7 +1,7 @@
 -- What a run leaves read and written.
 use Rattle.std.specs.Prelude.{◌≡◌, ℕ, Bool, List, ◌++◌, Option, Some}
 use Rattle.std.specs.Io.KnownBytes.{Appends}
-use Rattle.script_lines.specs.Ahead.{Ahead, Takes}
+use Rattle.script_lines.specs.Ahead.{Ahead, TakesBytes}
 use Rattle.text_lines.specs.Lines.{End, Ended, Broken, lines_until}
 use Rattle.script_lines.specs.Faults.{AppendsFront}
 use Rattle.desk_script.specs.Asks.{asks, Between}
@@ -19,7 +19,7 @@ pub record Answers (noted : List Answered → Type 0) (prompt : Bool) (old new :
   pub shortages : List Shortage
   pub caused : AllCausedOver prompt shortages
   pub given : List Answered
-  pub taken : Takes old new bytes
+  pub taken : TakesBytes old new bytes
   pub wrote : Appends before after (told_to given)
   pub notes : noted (but_bye given)
   pub law : (stop : End) (more : List ℕ) (later : List Shortage)
@@ -33,7 +33,7 @@ pub record Finishes (noted : List Answered → Type 0) (prompt : Bool) (old new 
   pub bytes : List ℕ
   pub shortages : List Shortage
   pub caused : AllCausedOver prompt shortages
-  pub taken : Takes old new bytes
+  pub taken : TakesBytes old new bytes
   pub given : List Answered
   pub wrote : Appends before after (told_to given)
   pub notes : noted (but_bye given)
@@ -47,7 +47,7 @@ pub record StopsTelling (prompt : Bool) (old new : Ahead) (before after : Option
   pub bytes : List ℕ
   pub shortages : List Shortage
   pub caused : AllCausedOver prompt shortages
-  pub taken : Takes old new bytes
+  pub taken : TakesBytes old new bytes
   pub law : (rest : List ℕ) → new.bytes ≡ Some rest
       → AppendsFront before after
       (replies_to p (asks Ended Between n (lines_until Ended (bytes ++ rest))) shortages)
@@ -58,7 +58,7 @@ pub record AnswersWhole (prompt : Bool) (old new : Ahead) (before after : Option
   pub read : List ℕ
   pub shortages : List Shortage
   pub caused : AllCausedOver prompt shortages
-  pub taken : Takes old new read
+  pub taken : TakesBytes old new read
   pub wrote : Appends before after (replies_by Broken read shortages)
 
 -- the replies to the script were written, for some shortages

@@ -16,13 +16,13 @@ use Rattle.desk_script.specs.declared.command.Command.TheVariants as command
 use Rattle.desk_server.specs.Shortage.{Shortage, AllCausedOver}
 use Rattle.desk_server.specs.Script.{Answered, answered_with, but_bye, replies_with}
 use Rattle.desk_server.specs.Told.{TellsPending, IsRefused, ends}
-use Rattle.desk_server.specs.Served.{Gives}
+use Rattle.desk_server.specs.Served.{GivesAnswer}
 use Rattle.desk_server.specs.declared.reply.Reply.{Reply}
 
 -- a desk was noted, or passed over and counted; the count stays at 2 ^ 64 - 1
-abbrev pub NotesOrCounts
+abbrev pub PublishedOrCounted
     : {V : Type 0} → (V → BookState → V → Type 0) → ℕ → ℕ → V → BookState → V → Type 0
-NotesOrCounts notes count total old d new =
+PublishedOrCounted notes count total old d new =
     (notes old d new × (total ≡ count)) ⊎ ((new ≡ old) × (total ≡ u64_saturate (count + 1)))
 
 -- what is asked has something to compute at this desk: a settling, or a bookmark that is pending
@@ -80,11 +80,11 @@ pub record NotesReply {V : Type 0} (notes : V → BookState → V → Type 0) (o
     (one : Answered) (new : Moment V)
     : Type 0 where
   pub reply : Reply
-  pub gives : Gives one.1 reply new.desk
+  pub gives : GivesAnswer one.1 reply new.desk
   pub pending : TellsPending reply new.desk
   pub watched : V
   pub before : WatchesReply notes one.0 reply old.post new.post old.desk new.desk old.seen watched
-  pub noted : NotesOrCounts notes old.missed new.missed watched new.desk new.seen
+  pub noted : PublishedOrCounted notes old.missed new.missed watched new.desk new.seen
 
 -- so it was for each of these in turn
 abbrev pub NotesEach
@@ -120,7 +120,7 @@ pub record WatchesUntold {V : Type 0} (notes : V → BookState → V → Type 0)
     : Type 0 where
   pub reply : Reply
   pub desk : BookState
-  pub gives : Gives one.1 reply desk
+  pub gives : GivesAnswer one.1 reply desk
   pub watched : WatchesReply notes one.0 reply old.post q old.desk desk old.seen new
 
 -- the post gave nothing more and nobody looked

@@ -7,13 +7,13 @@ ghost use Rattle.dependency_book.specs.Shown.{IsPending};
 ghost use Rattle.desk_core.specs.Looks.{LooksOn};
 ghost use Rattle.desk_events.specs.Wanted.{bookmark_in};
 ghost use Rattle.desk_script.specs.Asks.{Ask, Obey};
-ghost use Rattle.desk_script.specs.Heard.{AsksFor};
+ghost use Rattle.desk_script.specs.Heard.{IsReadAs};
 ghost use Rattle.desk_server.specs.Answer.{edited, id_word, listed, obeyed, only};
 ghost use Rattle.desk_server.specs.Answer.{polled, scripted, settled, shown, started, taken};
-ghost use Rattle.desk_server.specs.Served.{GivesBy, GivesOrLacks, KeepsText, Serves, KeepsTaken};
+ghost use Rattle.desk_server.specs.Served.{GivesAnswerBy, RepliesOrNoMemory, KeepsText, AnswersRequest, KeepsTaken};
 ghost use Rattle.desk_server.specs.Served.{TakesText, kept_text, session};
 ghost use Rattle.desk_server.specs.Reply.{working_text};
-ghost use Rattle.desk_server.specs.Jobs.{Carries, CarriesOn, DropsJobs};
+ghost use Rattle.desk_server.specs.Jobs.{PostMatchesDesk, CarriesOn, DropsJobs};
 ghost use Rattle.desk_core.specs.Settling.{TellsCause};
 ghost use Rattle.desk_server.specs.Jobs.{IsDoneWith, KeepsCauses};
 ghost use Rattle.desk_server.specs.Told.{LeavesOver, PollsBy, TakesAnswers, TellsPending, ends};
@@ -49,7 +49,7 @@ fn id_word(edit: &Edit) -> &'static str
 
 // Makes an edit, or refuses it.
 fn edit(desk: &mut Desk<'_>, edit: &Edit) -> Reply
-    ensures answer { GivesOrLacks desk.old.plan (edited desk.old.plan (asked_of edit.now))
+    ensures answer { RepliesOrNoMemory desk.old.plan (edited desk.old.plan (asked_of edit.now))
         result desk.new }
     ensures jobs { DropsJobs desk.old desk.new }
     ensures pending { TellsPending result desk.new }
@@ -66,7 +66,7 @@ fn edit(desk: &mut Desk<'_>, edit: &Edit) -> Reply
 
 // Takes the rule that a text means.
 fn take_rule(alloc: Global, desk: &mut Desk<'_>, text: &[u8]) -> Reply
-    ensures answer { GivesOrLacks desk.old.plan (taken desk.old.plan Format.Rule text.now)
+    ensures answer { RepliesOrNoMemory desk.old.plan (taken desk.old.plan Format.Rule text.now)
         result desk.new }
     ensures jobs { DropsJobs desk.old desk.new }
     ensures pending { TellsPending result desk.new }
@@ -84,7 +84,7 @@ fn take_rule(alloc: Global, desk: &mut Desk<'_>, text: &[u8]) -> Reply
 // Takes a start whose file names this generation, or refuses it; the desk counts from 0 all the
 // same.
 fn begin(desk: &mut Desk<'_>, start: Arc<Plane>, generation: u64) -> Reply
-    ensures answer { GivesOrLacks desk.old.plan (started desk.old.plan generation (arc_value start))
+    ensures answer { RepliesOrNoMemory desk.old.plan (started desk.old.plan generation (arc_value start))
         result desk.new }
     ensures jobs { DropsJobs desk.old desk.new }
     ensures pending { TellsPending result desk.new }
@@ -102,7 +102,7 @@ fn begin(desk: &mut Desk<'_>, start: Arc<Plane>, generation: u64) -> Reply
 
 // Takes the start that a file holds.
 fn take_start(alloc: Global, desk: &mut Desk<'_>, pattern: Loaded) -> Reply
-    ensures answer { GivesOrLacks desk.old.plan
+    ensures answer { RepliesOrNoMemory desk.old.plan
         (started desk.old.plan pattern.generation pattern.plane) result desk.new }
     ensures jobs { DropsJobs desk.old desk.new }
     ensures pending { TellsPending result desk.new }
@@ -115,7 +115,7 @@ fn take_start(alloc: Global, desk: &mut Desk<'_>, pattern: Loaded) -> Reply
 
 // Takes the start that a run-length encoded text means.
 fn take_rle(alloc: Global, desk: &mut Desk<'_>, text: &[u8]) -> Reply
-    ensures answer { GivesOrLacks desk.old.plan (taken desk.old.plan Format.Rle text.now)
+    ensures answer { RepliesOrNoMemory desk.old.plan (taken desk.old.plan Format.Rle text.now)
         result desk.new }
     ensures jobs { DropsJobs desk.old desk.new }
     ensures pending { TellsPending result desk.new }
@@ -128,7 +128,7 @@ fn take_rle(alloc: Global, desk: &mut Desk<'_>, text: &[u8]) -> Reply
 
 // Takes the start that a macrocell text means.
 fn take_macrocell(alloc: Global, desk: &mut Desk<'_>, text: &[u8]) -> Reply
-    ensures answer { GivesOrLacks desk.old.plan (taken desk.old.plan Format.Macrocell text.now)
+    ensures answer { RepliesOrNoMemory desk.old.plan (taken desk.old.plan Format.Macrocell text.now)
         result desk.new }
     ensures jobs { DropsJobs desk.old desk.new }
     ensures pending { TellsPending result desk.new }
@@ -141,7 +141,7 @@ fn take_macrocell(alloc: Global, desk: &mut Desk<'_>, text: &[u8]) -> Reply
 
 // Takes what a text of this format means.
 fn take(alloc: Global, desk: &mut Desk<'_>, format: Format, text: &[u8]) -> Reply
-    ensures answer { GivesOrLacks desk.old.plan (taken desk.old.plan format text.now)
+    ensures answer { RepliesOrNoMemory desk.old.plan (taken desk.old.plan format text.now)
         result desk.new }
     ensures jobs { DropsJobs desk.old desk.new }
     ensures pending { TellsPending result desk.new }
@@ -218,7 +218,7 @@ fn compute<P: Post, O: Onlooker>(
     post: &mut P,
     onlooker: &mut O,
 ) -> Option<Cause>
-    requires { Carries (P.view post.old) desk.old }
+    requires { PostMatchesDesk (P.view post.old) desk.old }
     ensures plan { desk.new.plan ≡ desk.old.plan }
     ensures caused { (P.view post.old).is_prompt ≡ true → IfNone result (pending_of desk.new ≡ 0) }
     ensures explained { TellsCause (P.view post.old) (P.view post.new) desk.old desk.new result }
@@ -244,8 +244,8 @@ fn settle<P: Post, O: Onlooker>(
     onlooker: &mut O,
     bell: &mut impl Bell,
 ) -> Reply
-    requires { Carries (P.view post.old) desk.old }
-    ensures answer { GivesBy (P.view post.old).is_prompt (λ short. settled short desk.old.plan)
+    requires { PostMatchesDesk (P.view post.old) desk.old }
+    ensures answer { GivesAnswerBy (P.view post.old).is_prompt (λ short. settled short desk.old.plan)
         result desk.new }
     ensures leaves { LeavesOver (P.view post.old) (P.view post.new) result desk.old desk.new }
     ensures post { CarriesOn (P.view post.old) (P.view post.new) desk.new }
@@ -264,8 +264,8 @@ fn settle<P: Post, O: Onlooker>(
 
 // Sends jobs for what isn't known, as many as the post takes, and waits for no answer.
 fn work<P: Post>(rt: &impl Wait, desk: &mut Desk<'_>, post: &mut P) -> Reply
-    requires { Carries (P.view post.old) desk.old }
-    ensures answer { GivesBy (P.view post.old).is_prompt
+    requires { PostMatchesDesk (P.view post.old) desk.old }
+    ensures answer { GivesAnswerBy (P.view post.old).is_prompt
         (λ short. only desk.old.plan working_text) result desk.new }
     ensures silent { (P.view post.new).answers ≡ (P.view post.old).answers }
     ensures post { CarriesOn (P.view post.old) (P.view post.new) desk.new }
@@ -286,8 +286,8 @@ fn show<P: Post, O: Onlooker>(
     onlooker: &mut O,
     bell: &mut impl Bell,
 ) -> Reply
-    requires { Carries (P.view post.old) desk.old }
-    ensures answer { GivesBy (P.view post.old).is_prompt
+    requires { PostMatchesDesk (P.view post.old) desk.old }
+    ensures answer { GivesAnswerBy (P.view post.old).is_prompt
         (λ short. shown short desk.old.plan id (bookmark_in desk.old.plan.bookmarks id))
         result desk.new }
     ensures at_once { ¬ IsPending desk.old id → (desk.new ≡ desk.old) × (post.new ≡ post.old) }
@@ -312,8 +312,8 @@ fn show<P: Post, O: Onlooker>(
 // answer.
 #[tactic(auto, using(crate::proofs::Replies::gives_polled))]
 fn poll<P: Post>(rt: &impl Wait, desk: &mut Desk<'_>, post: &mut P) -> Reply
-    requires { Carries (P.view post.old) desk.old }
-    ensures answer { GivesBy (P.view post.old).is_prompt (λ short. polled short desk.old.plan)
+    requires { PostMatchesDesk (P.view post.old) desk.old }
+    ensures answer { GivesAnswerBy (P.view post.old).is_prompt (λ short. polled short desk.old.plan)
         result desk.new }
     ensures leaves { LeavesOver (P.view post.old) (P.view post.new) result desk.old desk.new }
     ensures polls { PollsBy (P.view post.old) (P.view post.new) desk.old desk.new result }
@@ -328,7 +328,7 @@ fn poll<P: Post>(rt: &impl Wait, desk: &mut Desk<'_>, post: &mut P) -> Reply
 
 // Shows a bookmark as it is known now.
 fn peek(desk: &Desk<'_>, id: u64) -> Reply
-    ensures answer { GivesBy true
+    ensures answer { GivesAnswerBy true
         (λ short. shown short desk.now.plan id (bookmark_in desk.now.plan.bookmarks id))
         result desk.now }
     ensures pending { TellsPending result desk.now }
@@ -340,7 +340,7 @@ fn peek(desk: &Desk<'_>, id: u64) -> Reply
 
 // Lists what the document has.
 fn list(desk: &Desk<'_>) -> Reply
-    ensures answer { GivesBy true (λ short. listed short desk.now.plan) result desk.now }
+    ensures answer { GivesAnswerBy true (λ short. listed short desk.now.plan) result desk.now }
     ensures pending { TellsPending result desk.now }
 {
     let _plan = desk.document();
@@ -349,7 +349,7 @@ fn list(desk: &Desk<'_>) -> Reply
 
 // Writes the document as a script that makes it anew.
 fn script(alloc: Global, desk: &Desk<'_>, rule: &RuleText) -> Reply
-    ensures answer { GivesBy true (λ short. scripted short (session desk.now rule.now)) result
+    ensures answer { GivesAnswerBy true (λ short. scripted short (session desk.now rule.now)) result
         desk.now }
     ensures pending { TellsPending result desk.now }
 {
@@ -370,8 +370,8 @@ fn obey<P: Post, O: Onlooker>(
     onlooker: &mut O,
     bell: &mut impl Bell,
 ) -> Reply
-    requires { Carries (P.view post.old) desk.old }
-    ensures answer { GivesBy (P.view post.old).is_prompt
+    requires { PostMatchesDesk (P.view post.old) desk.old }
+    ensures answer { GivesAnswerBy (P.view post.old).is_prompt
         (λ short. obeyed short (session desk.old rule.now) command) result desk.new }
     ensures leaves { TakesAnswers command
         → LeavesOver (P.view post.old) (P.view post.new) result desk.old desk.new }
@@ -406,8 +406,8 @@ pub(crate) fn serve<P: Post, O: Onlooker>(
     onlooker: &mut O,
     bell: &mut impl Bell,
 ) -> Reply
-    requires { Carries (P.view post.old) desk.old }
-    ensures answer { Serves (P.view post.old).is_prompt request result
+    requires { PostMatchesDesk (P.view post.old) desk.old }
+    ensures answer { AnswersRequest (P.view post.old).is_prompt request result
         (session desk.old rule.old) desk.new }
     ensures kept { KeepsText request (session desk.old rule.old) desk.new rule.new }
     ensures leaves { (command : Command) → request ≡ Request.Obey command
@@ -415,7 +415,7 @@ pub(crate) fn serve<P: Post, O: Onlooker>(
         → LeavesOver (P.view post.old) (P.view post.new) result desk.old desk.new }
     ensures post { CarriesOn (P.view post.old) (P.view post.new) desk.new }
     ensures pending { TellsPending result desk.new }
-    ensures looked { (ask : Ask) → AsksFor request ask → WatchesReply O.sees ask result
+    ensures looked { (ask : Ask) → IsReadAs request ask → WatchesReply O.sees ask result
         (P.view post.old) (P.view post.new) desk.old desk.new onlooker.old onlooker.new }
 {
     match request {

@@ -139,7 +139,7 @@ IsNumberIn setting found n =
 
 -- each setting has the text that the words give it, which is a number of its range, and progress
 -- has the text that they give it
-pub record Gives (words : List Text) (found : Found) : Type 0 where
+pub record GivesSettings (words : List Text) (found : Found) : Type 0 where
   pub settings : (setting : Setting)
       → HasNumber setting found × (one_text found (name_of setting) ≡ text_of setting words)
   pub progress : one_text found progress_name ≡ progress_text words

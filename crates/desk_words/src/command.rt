@@ -2,7 +2,7 @@
 ghost use Rattle.std.specs.Prelude.{◌≡◌, IfOk, IsErrAnd, MatchResult, List, map};
 ghost use Rattle.clap.specs.Words.{FailsBy, app_of, found_of, kind_of, one_text};
 ghost use Rattle.desk_words.specs.Words.{AsksForHelp, AsksWith, BeginsPlain, Choice, chosen_by};
-ghost use Rattle.desk_words.specs.Command.{AlwaysGives, Chooses, Gives, HasNumber, IsHelpOrMemory};
+ghost use Rattle.desk_words.specs.Command.{AlwaysGives, Chooses, GivesSettings, HasNumber, IsHelpOrMemory};
 ghost use Rattle.desk_words.specs.Command.{IsNumberIn, IsOptionOf, IsProgress, IsUnknownOrMemory};
 ghost use Rattle.desk_words.specs.Command.{Says, desk, faults, progress_name};
 
@@ -64,7 +64,7 @@ fn command<'a>(alloc: Global) -> Result<Command<'a>, AllocError>
 // What `clap` finds in the words.
 fn parsed<'a, S: AsStr>(alloc: Global, words: &'a [S]) -> Result<ArgMatches<'a>, Error>
     ensures faults { FailsBy (faults (map S.text words.now)) result }
-    ensures gives { IfOk result (λ m. Gives (map S.text words.now) (found_of m)) }
+    ensures gives { IfOk result (λ m. GivesSettings (map S.text words.now) (found_of m)) }
 {
     command(alloc)?.try_get_matches_from(words)
 }

@@ -5,7 +5,7 @@ use Rattle.std.proofs.lemmas.Bool.Decides.{nat_tests}
 use Rattle.basics.proofs.Shared.Lists.{all_so}
 use Rattle.bookmarks.specs.declared.view.View.{View}
 use Rattle.bookmarks.specs.declared.view.View.TheVariants.{Counts}
-use Rattle.bookmarks.specs.Within.{IsWithin}
+use Rattle.bookmarks.specs.Within.{KeepsViewLimits}
 use Rattle.schedule.specs.declared.document.Bookmark.{Bookmark}
 use Rattle.schedule.specs.Asked.{AddBookmark, RemoveBookmark}
 use Rattle.schedule.specs.Change.{changed_bookmarks, next_bookmark, refusal}
@@ -37,7 +37,7 @@ add_one : (p : Plan) → IsSound p → (done : List Bookmark) (x : Bookmark) (re
 add_one p sound done x rest k last is next left =
     let q : Plan = with_bookmarks p k done last in
     let near : x.generation ≤ 2 ^ 60 = at_cut _ p.bookmarks done x rest is sound.bookmarks_near in
-    let within : IsWithin x.view = at_cut _ p.bookmarks done x rest is sound.views_within in
+    let within : KeepsViewLimits x.view = at_cut _ p.bookmarks done x rest is sound.views_within in
     let placed : IsPlaced p.branches x.branch x.generation =
     at_cut _ p.bookmarks done x rest is sound.branches_sound.bookmarks_placed in
     let few = fewer_before p.bookmarks done x rest 4096 is sound.few_bookmarks in

@@ -12,7 +12,7 @@ use Rattle.hash_life.specs.Result.{result}
 use Rattle.hash_life.specs.Puts.{nine_of, fours_of, Puts, Stands, PutsBlocks, AsksOnce}
 use Rattle.hash_life.proofs.Shared.Places.{what_is_put}
 use Rattle.hash_life.proofs.Shared.Put.{Puts-weaker}
-use Rattle.hash_engine.specs.Memo.{IsRight, IsPut}
+use Rattle.hash_engine.specs.Memo.{IsRightMemo, IsPut}
 use Rattle.hash_engine.specs.Asked.{is_put, picked, places_put}
 use Rattle.hash_engine.specs.Search.{sought, Asks, IsCounted}
 use Rattle.hash_engine.specs.declared.memo.Memo.{Memo}
@@ -69,7 +69,7 @@ abbrev block : List (List ℕ) → ℕ → Square
 block rows i = square_in rows 2 (first_number + i)
 
 module _ (number : ℕ) {next : List ℕ → ℕ} {k generations base a b : ℕ} {t u : Table} {old new : Memo} (none : old.full.items ≡ [])
-    (counted : IsCounted next k generations t old) (right : IsRight next u.rows new) (distinct : AreDistinct u.rows)
+    (counted : IsCounted next k generations t old) (right : IsRightMemo next u.rows new) (distinct : AreDistinct u.rows)
     (count : base ≡ length (places_put u.rows new)) (asks : Asks next (Puts next k generations (sought t k number)) t old a u new b) where
   pub put_blocks : Puts next k generations (sought t k number) (IsPut u.rows new.full.items) →
       PutsBlocks next k generations (sought t k number) base

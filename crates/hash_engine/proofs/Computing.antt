@@ -9,7 +9,7 @@ use Rattle.square_table.proofs.Shared.Growth.{Grows-same, IsNumber-grows, square
 use Rattle.hash_life.specs.Puts.{Puts, nine_of, fours_of, IsBelow}
 use Rattle.hash_life.specs.Makes.{Makes}
 use Rattle.hash_engine.specs.declared.memo.Memo.{Memo}
-use Rattle.hash_engine.specs.Search.{CanSeek, CanSeekAll, sought, MakesAll, PutsAll, Keeps, Asks, IsCounted, IsFound, FirstAreFound, FindsForAll, CanCompute}
+use Rattle.hash_engine.specs.Search.{CanSeek, CanSeekAll, sought, MakesAll, PutsAll, KeepsOnWay, Asks, IsCounted, IsFound, FirstAreFound, FindsForAll, CanCompute}
 use Rattle.hash_engine.proofs.Finding.{HasPut-grows, Keeps-made, Keeps-grown, Keeps-then, IsFound-then, made_of, adds_result, StandForAll-found, by_number, by_found, Asks-then, Asks-grown, Asks-next, IsPut-grows}
 use Rattle.std.proofs.lemmas.List.Elements.{All-weaker}
 use Rattle.worlds.specs.Square.{Square, one}
@@ -20,7 +20,7 @@ use Rattle.hash_life.proofs.Shared.Made.{Makes-itself, Makes-parts, Makes-whole}
 use Rattle.hash_life.proofs.Shared.Put.{Puts-whole}
 use Rattle.hash_engine.specs.Standing.{StandsFor, StandForAll}
 use Rattle.hash_engine.specs.Adding.{AddsOf, AddsFours, GiveAllOf, GiveFours}
-use Rattle.hash_engine.specs.Memo.{IsRight, IsPut}
+use Rattle.hash_engine.specs.Memo.{IsRightMemo, IsPut}
 use Rattle.hash_engine.specs.Found.{IsSameRule}
 use Rattle.hash_engine.proofs.Standing.{◌⟫◌, StandsFor-itself, StandsFor-grows, StandsFor-joined, Adds-made}
 
@@ -37,7 +37,7 @@ AreDone-all are all = record { count = are.count; each = λ j d e below. are.fou
 -- one square's turn
 module _ {next mid : List ℕ → ℕ} {c d k ahead i : ℕ} {olds news : List ℕ} {t u : Table} {first before : Memo}
     (can : CanSeekAll next c t first k ahead olds) (below : i < length olds)
-    (keeps : Keeps next mid c d (MakesAll next k ahead olds t) t u before)
+    (keeps : KeepsOnWay next mid c d (MakesAll next k ahead olds t) t u before)
     (done : AreDone next k ahead i olds news t first u before) where
   -- its cells are what they were
   same : (e : ℕ) → sought u k (get_or news i 0) ≡ sought t k (get_or olds i e)
@@ -49,8 +49,8 @@ module _ {next mid : List ℕ → ℕ} {c d k ahead i : ℕ} {olds news : List �
   turn_can = grind (arith, done.rest i 0, IsNumber-grows t u (suc (suc k)) (get_or olds i 0) keeps.grows, same 0, can.ready i 0 below)
 
   module _ {new : List ℕ → ℕ} {e : ℕ} {v : Table} {after : Memo}
-      (now : Keeps mid new d e (Makes mid k ahead (sought u k (get_or news i 0))) u v after) where
-    pub turn_keeps : Keeps next new c e (MakesAll next k ahead olds t) t v after
+      (now : KeepsOnWay mid new d e (Makes mid k ahead (sought u k (get_or news i 0))) u v after) where
+    pub turn_keeps : KeepsOnWay next new c e (MakesAll next k ahead olds t) t v after
     turn_keeps = Keeps-then keeps (λ all ways. let here = ways i 0 below in grind (arith, same 0, here)) now
 
     module _ {a0 a1 a2 : ℕ} (asks : IsCounted next k ahead t first → Asks next (PutsAll next k ahead olds t) t first a0 u before a1)
@@ -117,7 +117,7 @@ module _ {next : List ℕ → ℕ} {c : ℕ} {t : Table} {memo : Memo} {k ahead 
 
   -- numbers that stand for squares of one level less can be sought
   can_all : {mid : List ℕ → ℕ} {d m : ℕ} {u : Table} {after : Memo} {numbers : List ℕ} {ss : List Square} →
-      IsSameRule next mid c d → IsRight next u.rows after → StandForAll u.rows (suc (suc (k - 1))) numbers ss →
+      IsSameRule next mid c d → IsRightMemo next u.rows after → StandForAll u.rows (suc (suc (k - 1))) numbers ss →
       All (λ q. Puts next (k - 1) m q (IsBelow c)) ss → CanSeekAll mid d u after (k - 1) m numbers
   can_all {mid} {d} {m} {u} {after} {numbers} {ss} rule right are puts =
       let below = by_number are (λ q. Puts next (k - 1) m q (IsBelow c)) puts in
@@ -125,7 +125,7 @@ module _ {next : List ℕ → ℕ} {c : ℕ} {t : Table} {memo : Memo} {k ahead 
 
   -- the nine
   module _ {a : Table} (adds : AddsOf nine_of t number a) where
-    pub nine_keeps : Keeps next next c c (Makes next k ahead s) t a memo
+    pub nine_keeps : KeepsOnWay next next c c (Makes next k ahead s) t a memo
     nine_keeps = Keeps-made (adds k s stands).grows can.seek.right (λ all way.
         (adds k s stands).among all
         (All-weaker _ _ (λ q. Makes-itself next (k - 1) first q (Contains all)) (nine_of s) (makes_parts (Contains all) way).0))
@@ -139,8 +139,8 @@ module _ {next : List ℕ → ℕ} {c : ℕ} {t : Table} {memo : Memo} {k ahead 
 
       -- their results
       module _ {mid : List ℕ → ℕ} {d : ℕ} {b : Table} {after : Memo}
-          (one_keeps : Keeps next mid c d (MakesAll next (k - 1) first nine a) a b after) where
-        pub first_keeps : Keeps next mid c d (Makes next k ahead s) t b after
+          (one_keeps : KeepsOnWay next mid c d (MakesAll next (k - 1) first nine a) a b after) where
+        pub first_keeps : KeepsOnWay next mid c d (Makes next k ahead s) t b after
         first_keeps = Keeps-then nine_keeps
             (λ all way. by_number nine_are (λ q. Makes next (k - 1) first q (Contains all)) (makes_parts (Contains all) way).0)
             one_keeps
@@ -154,7 +154,7 @@ module _ {next : List ℕ → ℕ} {c : ℕ} {t : Table} {memo : Memo} {k ahead 
           be : Grows b e
           be = (adds_four (suc (k - 1)) _ results_are).grows
 
-          pub fours_keeps : Keeps next mid c d (Makes next k ahead s) t e after
+          pub fours_keeps : KeepsOnWay next mid c d (Makes next k ahead s) t e after
           fours_keeps = Keeps-grown first_keeps be (λ all way.
               (adds_four (suc (k - 1)) _ results_are).among all
               (All-weaker _ _ (λ q. Makes-itself next (k - 1) (ahead - first) q (Contains all)) fours (makes_parts (Contains all) way).1))
@@ -168,8 +168,8 @@ module _ {next : List ℕ → ℕ} {c : ℕ} {t : Table} {memo : Memo} {k ahead 
 
             -- their results
             module _ {new : List ℕ → ℕ} {n : ℕ} {f : Table} {last : Memo}
-                (two_keeps : Keeps mid new d n (MakesAll mid (k - 1) (ahead - first) four_numbers e) e f last) where
-              pub last_keeps : Keeps next new c n (Makes next k ahead s) t f last
+                (two_keeps : KeepsOnWay mid new d n (MakesAll mid (k - 1) (ahead - first) four_numbers e) e f last) where
+              pub last_keeps : KeepsOnWay next new c n (Makes next k ahead s) t f last
               last_keeps = Keeps-then fours_keeps
                   (λ all way. subst (λ g. MakesAll g (k - 1) (ahead - first) four_numbers e (Contains all)) (sym fours_keeps.rule.meaning)
                   (by_number fours_are (λ q. Makes next (k - 1) (ahead - first) q (Contains all)) (makes_parts (Contains all) way).1))
@@ -189,7 +189,7 @@ module _ {next : List ℕ → ℕ} {c : ℕ} {t : Table} {memo : Memo} {k ahead 
                 joined : (r : ℕ) → IsSquareOf g.rows ends r → StandsFor g.rows (suc k) r (result next k ahead s)
                 joined r is = let whole = StandsFor-joined four_ends.0 fg is (Grows-same g) in grind (arith, whole, four_ends.1, is_k)
 
-                pub joined_keeps : GrowsBy ends f g → Keeps next new c n (Makes next k ahead s) t g last
+                pub joined_keeps : GrowsBy ends f g → KeepsOnWay next new c n (Makes next k ahead s) t g last
                 joined_keeps step =
                     Keeps-grown last_keeps fg (adds_result next k ahead s four_ends.1 (Adds-made four_ends.0 fg step))
 
@@ -244,7 +244,7 @@ module _ {next : List ℕ → ℕ} {c : ℕ} {t : Table} {memo : Memo} {k ahead 
                             (Puts-whole next (k - 1) ahead first s (IsPut g.rows last.full.items) can.some is_first (nine_found.1 is, four_found.1 is));
                       }
 
-                  pub joined_all : {r : ℕ} → GrowsBy ends f g → IsSquareOf g.rows ends r → Keeps next new c n (Makes next k ahead s) t g last ×
+                  pub joined_all : {r : ℕ} → GrowsBy ends f g → IsSquareOf g.rows ends r → KeepsOnWay next new c n (Makes next k ahead s) t g last ×
                       IsFound next (IsCounted next k ahead t memo) k ahead s g last r ×
                       (IsCounted next k ahead t memo → Asks next (Puts next k ahead s) t memo a0 g last a2)
                   joined_all {r} step is = (joined_keeps step, joined_finds r is, joined_asks)

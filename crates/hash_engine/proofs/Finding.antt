@@ -11,9 +11,9 @@ use Rattle.hash_life.specs.Puts.{Puts}
 use Rattle.hash_life.proofs.Shared.InTwo.{Puts-itself, result-none, result-later}
 use Rattle.hash_life.proofs.Shared.Below as states
 use Rattle.hash_life.proofs.Shared.Put.{Puts-last, Puts-weaker, Puts-none}
-use Rattle.hash_engine.specs.Memo.{AreKnown, IsRight, IsPut, ArePut, HasPut, IsRemembered, IsResult, StaysRight}
+use Rattle.hash_engine.specs.Memo.{AreKnown, IsRightMemo, IsPut, ArePut, HasPut, IsRemembered, IsResult, StaysRight}
 use Rattle.hash_engine.specs.Asked.{is_put, places_put}
-use Rattle.hash_engine.specs.Search.{sought, Asks, Keeps, CanSeek, IsCounted, IsFound, FindsForAll}
+use Rattle.hash_engine.specs.Search.{sought, Asks, KeepsOnWay, CanSeek, IsCounted, IsFound, FindsForAll}
 use Rattle.hash_engine.specs.declared.memo.Memo.{Memo}
 use Rattle.hash_engine.specs.Found.{CanBeAsked}
 use Rattle.hash_engine.proofs.Standing.{above, within, below_some, StandsFor-itself, StandsFor-grows}
@@ -46,7 +46,7 @@ was_number next count t u known i k grows are some number =
     let h = are.right i some in
     grind (arith, IsNumber-grows t u (suc (suc h.0)), one_level u.rows (suc (suc h.0)) (suc (suc k)))
 
-pub IsPut-before : (next : List ℕ → ℕ) (t u : Table) (memo : Memo) (s : Square) → Grows t u → IsRight next t.rows memo →
+pub IsPut-before : (next : List ℕ → ℕ) (t u : Table) (memo : Memo) (s : Square) → Grows t u → IsRightMemo next t.rows memo →
     IsPut u.rows memo.full.items s → IsPut t.rows memo.full.items s
 IsPut-before next t u memo s grows right is =
     grind (arith, was_number next (λ k. 2 ^ k) t u memo.full.items is.place 0, square_in-grows)
@@ -60,7 +60,7 @@ ArePut-grows next count t u full known grows right are i k some number few =
     let weaker = Puts-weaker next k (count k) (sought t k (first_number + i)) (IsPut t.rows full) (IsPut u.rows full) in
     grind (arith, same, weaker (λ s is. IsPut-grows t u full s grows is) (are i k some was few))
 
-pub HasPut-grows : (next : List ℕ → ℕ) (t u : Table) (memo : Memo) → Grows t u → IsRight next t.rows memo →
+pub HasPut-grows : (next : List ℕ → ℕ) (t u : Table) (memo : Memo) → Grows t u → IsRightMemo next t.rows memo →
     HasPut next t.rows memo → HasPut next u.rows memo
 HasPut-grows next t u memo grows right has = record {
   full = ArePut-grows next (λ k. 2 ^ k) t u memo.full.items memo.full.items grows right.full has.full;
@@ -78,7 +78,7 @@ recalled_put next count rows full known k generations n r asked high some is are
 
 -- the table alone grew
 pub Asks-grown : {next : List ℕ → ℕ} {Way : (Square → Type 0) → Type 0} {t u : Table} {memo : Memo} {asks : ℕ} →
-    Grows t u → IsRight next t.rows memo → HasPut next t.rows memo → Asks next Way t memo asks u memo asks
+    Grows t u → IsRightMemo next t.rows memo → HasPut next t.rows memo → Asks next Way t memo asks u memo asks
 Asks-grown {next} {Way} {t} {u} {memo} {asks} grows right has =
     let four = count-grows next t u memo grows right in
     grind (arith, four, HasPut-grows next t u memo grows right has, IsPut-grows t u memo.full.items, IsPut-before next t u memo)
@@ -157,7 +157,7 @@ module _ {t u : Table} {generations n r : ℕ} {old new : Memo} (one : 0 < gener
   pub IsPut-noted : IsPut u.rows new.full.items (sought t 0 n)
   IsPut-noted = record { place = n - first_number; numbered = numbered; known = known; square = ap (square_in u.rows 2) (sym at) ∙ same }
 
-  pub Asks-put : {next : List ℕ → ℕ} {a b : ℕ} → IsRight next t.rows old → HasPut next t.rows old →
+  pub Asks-put : {next : List ℕ → ℕ} {a b : ℕ} → IsRightMemo next t.rows old → HasPut next t.rows old →
       get_or old.full.items (n - first_number) 0 ≡ 0 → b ≡ a + 4 → Asks next (Puts next 0 generations (sought t 0 n)) t old a u new b
   unfolding places_put
   Asks-put {next} {a} {b} right has anew four =
@@ -171,20 +171,20 @@ module _ {t u : Table} {generations n r : ℕ} {old new : Memo} (one : 0 < gener
       (λ all on_way two. subst (Contains all) (sym same) (Puts-itself next generations (sought t 0 n) (Contains all) one on_way)))
 
 -- the table alone grew
-pub Keeps-made : {next : List ℕ → ℕ} {count : ℕ} {Way : (Square → Type 0) → Type 0} {t u : Table} {memo : Memo} → Grows t u → IsRight next t.rows memo →
-    ((all : List Square) → Way (Contains all) → AreAmong all t.rows → AreAmong all u.rows) → Keeps next next count count Way t u memo
+pub Keeps-made : {next : List ℕ → ℕ} {count : ℕ} {Way : (Square → Type 0) → Type 0} {t u : Table} {memo : Memo} → Grows t u → IsRightMemo next t.rows memo →
+    ((all : List Square) → Way (Contains all) → AreAmong all t.rows → AreAmong all u.rows) → KeepsOnWay next next count count Way t u memo
 Keeps-made {next} {count} {Way} {t} {u} {memo} grows right adds = grind (arith, IsRight-grows next t u memo grows right)
 
 -- and then the table alone grew
 pub Keeps-grown : {next new : List ℕ → ℕ} {c d : ℕ} {Way : (Square → Type 0) → Type 0} {t u v : Table} {memo : Memo} →
-    Keeps next new c d Way t u memo → Grows u v → ((all : List Square) → Way (Contains all) → AreAmong all u.rows → AreAmong all v.rows) → Keeps next new c d Way t v memo
+    KeepsOnWay next new c d Way t u memo → Grows u v → ((all : List Square) → Way (Contains all) → AreAmong all u.rows → AreAmong all v.rows) → KeepsOnWay next new c d Way t v memo
 Keeps-grown {next} {new} {c} {d} {Way} {t} {u} {v} {memo} keeps grows adds =
     grind (arith, Grows-then, IsRight-grows next u v memo grows keeps.right)
 
 -- and then it went on with what is on the way
 pub Keeps-then : {next mid new : List ℕ → ℕ} {c d e : ℕ} {Way Rest : (Square → Type 0) → Type 0}
-    {t u v : Table} {memo more : Memo} → Keeps next mid c d Way t u memo → ((all : List Square) → Way (Contains all) → Rest (Contains all)) →
-    Keeps mid new d e Rest u v more → Keeps next new c e Way t v more
+    {t u v : Table} {memo more : Memo} → KeepsOnWay next mid c d Way t u memo → ((all : List Square) → Way (Contains all) → Rest (Contains all)) →
+    KeepsOnWay mid new d e Rest u v more → KeepsOnWay next new c e Way t v more
 Keeps-then {next} {mid} {new} {c} {d} {e} {Way} {Rest} {t} {u} {v} {memo} {more} keeps rest then = grind (arith, Grows-then)
 
 -- a square that a number stands for is in the table
@@ -198,15 +198,15 @@ adds_result next k generations s {r} {t} {u} is adds all way are = grind (arith,
 
 -- that of the root of a search can be sought
 pub CanSeek-root : {next : List ℕ → ℕ} {c : ℕ} {t : Table} {memo : Memo} {root : handles.Square} {generations level n : ℕ} → CanBeAsked c t root →
-    states.Keeps c next → level ≡ level_of root → n ≡ number_of root → IsRight next t.rows memo → CanSeek next c t memo (level - 2) generations n
+    states.Keeps c next → level ≡ level_of root → n ≡ number_of root → IsRightMemo next t.rows memo → CanSeek next c t memo (level - 2) generations n
 CanSeek-root {next} {c} {t} {memo} {root} {generations} {level} {n} asked keeps is same right =
     let below = states.Puts-below c next keeps (below_some c (cells_of t root) asked.below) (level - 2) generations (cells_of t root) asked.below in
     let two : level_of root ≡ suc (suc (level - 2)) = omega (arith, asked.level.0, is) in
     grind (arith, asked, is, same, two, below, right)
 
 -- for no generation it is the middle
-pub Keeps-middle : (k n : ℕ) {next : List ℕ → ℕ} {c ahead : ℕ} {t u : Table} {memo : Memo} → ahead ≡ 0 → IsRight next t.rows memo →
-    IsNumber t.rows (suc (suc k)) n → AddsOf (λ s. middle s ∷ []) t n u → Keeps next next c c (Makes next k ahead (sought t k n)) t u memo
+pub Keeps-middle : (k n : ℕ) {next : List ℕ → ℕ} {c ahead : ℕ} {t u : Table} {memo : Memo} → ahead ≡ 0 → IsRightMemo next t.rows memo →
+    IsNumber t.rows (suc (suc k)) n → AddsOf (λ s. middle s ∷ []) t n u → KeepsOnWay next next c c (Makes next k ahead (sought t k n)) t u memo
 Keeps-middle k n {next} {c} {ahead} {t} none right numbered adds =
     let s = sought t k n in
     let is : middle s ≡ result next k ahead s = grind (arith, none, result-none next k s) in
@@ -244,8 +244,8 @@ IsFound-then {next} {Counted} {Also} {k} {generations} {n} {s} {u} {v} {memo} {m
 
 -- and then it was remembered
 pub Keeps-noted : {next new : List ℕ → ℕ} {c d k generations n r : ℕ} {Counted : Type 0} {Way : (Square → Type 0) → Type 0} {t u : Table} {memo old : Memo}
-    (more : Memo) → Keeps next new c d Way t u memo → IsNumber t.rows (suc (suc k)) n → IsFound next Counted k generations (sought t k n) u old r →
-    StaysRight k generations n r memo more → Keeps next new c d Way t u more
+    (more : Memo) → KeepsOnWay next new c d Way t u memo → IsNumber t.rows (suc (suc k)) n → IsFound next Counted k generations (sought t k n) u old r →
+    StaysRight k generations n r memo more → KeepsOnWay next new c d Way t u more
 Keeps-noted {next} {new} {c} {d} {k} {generations} {n} {r} {Counted} {Way} {t} {u} more keeps numbered found stays =
     let same = square_in-grows t u (suc (suc k)) n keeps.grows numbered in
     let is : IsResult next u.rows k generations n r = grind (arith, IsNumber-grows t u (suc (suc k)) n keeps.grows numbered, same, found) in

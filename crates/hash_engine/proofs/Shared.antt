@@ -5,7 +5,7 @@ use Rattle.square_table.proofs.Shared.Growth.{IsNumber-grows, square_in-grows}
 use Rattle.square_table.proofs.Shared.Making.{IsMade-grows}
 use Rattle.square_table.proofs.Shared.Numbers.{one_level}
 use Rattle.hash_life.proofs.Shared.Made.{Makes-weaker}
-use Rattle.hash_engine.specs.Memo.{IsResult, AreKnown, IsRight, IsRemembered}
+use Rattle.hash_engine.specs.Memo.{IsResult, AreKnown, IsRightMemo, IsRemembered}
 use Rattle.hash_engine.specs.declared.memo.Memo.{Memo}
 use Rattle.hash_engine.proofs.Standing.{StandsFor-grows, within}
 use Rattle.std.specs.Prelude.{◌≢◌, true, false}
@@ -22,7 +22,7 @@ IsResult-grows next t u k generations n r grows is =
 AreKnown-grows : (next : List ℕ → ℕ) (count : ℕ → ℕ) (t u : Table) (known : List ℕ) → Grows t u → AreKnown next count t.rows known → AreKnown next count u.rows known
 AreKnown-grows next count t u known grows are = record { right = λ i some. let h = are.right i some in (h.0, IsResult-grows next t u h.0 (count h.0) _ _ grows h.1) }
 
-pub IsRight-grows : (next : List ℕ → ℕ) (t u : Table) (memo : Memo) → Grows t u → IsRight next t.rows memo → IsRight next u.rows memo
+pub IsRight-grows : (next : List ℕ → ℕ) (t u : Table) (memo : Memo) → Grows t u → IsRightMemo next t.rows memo → IsRightMemo next u.rows memo
 IsRight-grows next t u memo grows right =
     let full = AreKnown-grows next (λ k. 2 ^ k) t u memo.full.items grows right.full in
     record { full = full; part = AreKnown-grows next (λ k. get_or memo.counts k 0) t u memo.part.items grows right.part }
@@ -62,7 +62,7 @@ two_of rows zero n number four = number
 two_of rows (suc k) n number four = let other = is_four-more rows k n number in absurd cc
 
 -- what is put to the rule is a square of level 2
-pub IsNumber-put : (next : List ℕ → ℕ) (rows : List (List ℕ)) (memo : Memo) (i : ℕ) → IsRight next rows memo → is_put rows memo i ≡ true → IsNumber rows 2 (first_number + i)
+pub IsNumber-put : (next : List ℕ → ℕ) (rows : List (List ℕ)) (memo : Memo) (i : ℕ) → IsRightMemo next rows memo → is_put rows memo i ≡ true → IsNumber rows 2 (first_number + i)
 unfolding is_put
 IsNumber-put next rows memo i right is =
     let h = right.full.right i in
@@ -83,7 +83,7 @@ unfolding is_put
 is_put-agrees rows old new i same = cc
 
 -- they are as many in a table that grew
-pub count-grows : (next : List ℕ → ℕ) (t u : Table) (memo : Memo) → Grows t u → IsRight next t.rows memo → length (places_put u.rows memo) ≡ length (places_put t.rows memo)
+pub count-grows : (next : List ℕ → ℕ) (t u : Table) (memo : Memo) → Grows t u → IsRightMemo next t.rows memo → length (places_put u.rows memo) ≡ length (places_put t.rows memo)
 unfolding places_put
 count-grows next t u memo grows right =
     ap length (picked-none (is_put u.rows memo) (length t.rows) (length u.rows) (omega (arith, ap length grows.rows, length-append t.rows grows.more))

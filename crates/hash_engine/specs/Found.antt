@@ -10,7 +10,7 @@ use Rattle.square_table.specs.declared.fault.TableFault.TheVariants.{NoRoom}
 use Rattle.hash_life.specs.Result.{result}
 use Rattle.hash_life.specs.Puts.{IsBelow, PutsBlocks, AsksOnce}
 use Rattle.hash_life.specs.Makes.{Makes}
-use Rattle.hash_engine.specs.Memo.{IsRight}
+use Rattle.hash_engine.specs.Memo.{IsRightMemo}
 use Rattle.hash_engine.specs.Asked.{places_of_four}
 use Rattle.hash_engine.specs.declared.memo.Memo.{Memo}
 use Rattle.hash_engine.specs.declared.later.Found.{Found}
@@ -38,7 +38,7 @@ pub record CanBeAsked (state_count : ℕ) (t : Table) (root : Square) : Type 0 w
 pub record CanSearch (next : List ℕ → ℕ) (state_count : ℕ) (t : Table) (memo : Memo) (root : Square)
     : Type 0 where
   pub asked : CanBeAsked state_count t root
-  pub right : IsRight next t.rows memo
+  pub right : IsRightMemo next t.rows memo
 
 -- the square is the one in the middle of the root so many generations later, in the table that came
 -- of the root's

@@ -25,7 +25,7 @@ pub record AreKnown (next : List ℕ → ℕ) (count : ℕ → ℕ) (rows : List
       (k : ℕ) × IsResult next rows k (count k) (first_number + i) (get_or known i 0)
 
 -- each result that is remembered is right
-pub record IsRight (next : List ℕ → ℕ) (rows : List (List ℕ)) (memo : Memo) : Type 0 where
+pub record IsRightMemo (next : List ℕ → ℕ) (rows : List (List ℕ)) (memo : Memo) : Type 0 where
   pub full : AreKnown next (λ k. 2 ^ k) rows memo.full.items
   pub part : AreKnown next (λ k. get_or memo.counts k 0) rows memo.part.items
 
@@ -56,7 +56,7 @@ HasNoFull memo = memo.full.items ≡ []
 -- number n by one generation
 pub record IsAnew (next : List ℕ → ℕ) (rows : List (List ℕ)) (memo : Memo) (generations n : ℕ)
     : Type 0 where
-  pub right : IsRight next rows memo
+  pub right : IsRightMemo next rows memo
   pub anew : generations ≡ 1 → get_or memo.full.items (n - first_number) 0 ≡ 0
 
 -- the one list has this result at the place i, and is the other elsewhere
@@ -76,9 +76,9 @@ pub record IsRemembered (k generations n r : ℕ) (old new : Memo) : Type 0 wher
   pub rest : generations ≢ get_or old.counts k 0 → new.part.items ≡ old.part.items
 
 -- r is the result of the square with the number n, if what is remembered is right
-abbrev pub Recalls : Memo → ℕ → ℕ → ℕ → ℕ → Type 0
-Recalls memo k generations n = λ r. (next : List ℕ → ℕ) (rows : List (List ℕ)) →
-    IsRight next rows memo → IsNumber rows (suc (suc k)) n → IsResult next rows k generations n r
+abbrev pub RecallsResult : Memo → ℕ → ℕ → ℕ → ℕ → Type 0
+RecallsResult memo k generations n = λ r. (next : List ℕ → ℕ) (rows : List (List ℕ)) →
+    IsRightMemo next rows memo → IsNumber rows (suc (suc k)) n → IsResult next rows k generations n r
 
 -- what is put to the rule on the way to the result was put to it, if that holds of all that is
 -- remembered
@@ -90,12 +90,12 @@ RecallsPut memo k generations n = (next : List ℕ → ℕ) (rows : List (List �
 -- what is remembered stays right with this result, if that is one
 abbrev pub StaysRight : ℕ → ℕ → ℕ → ℕ → Memo → Memo → Type 0
 StaysRight k generations n r old new = (next : List ℕ → ℕ) (rows : List (List ℕ)) →
-    IsRight next rows old → IsResult next rows k generations n r → IsRight next rows new
+    IsRightMemo next rows old → IsResult next rows k generations n r → IsRightMemo next rows new
 
 -- whatever it was right for, it is right for still
 abbrev pub StaysRightFor : Memo → Memo → Type 0
 StaysRightFor old new = (next : List ℕ → ℕ) (rows : List (List ℕ)) →
-    IsRight next rows old → IsRight next rows new
+    IsRightMemo next rows old → IsRightMemo next rows new
 
 -- if what is put to the rule on the ways to all that is remembered was put to it, it still was
 abbrev pub StaysPutFor : Memo → Memo → Type 0

@@ -7,7 +7,7 @@ use Rattle.hash_life.specs.Result.{result}
 use Rattle.hash_life.specs.Puts.{Puts}
 use Rattle.hash_life.specs.Makes.{Makes}
 use Rattle.hash_engine.specs.Standing.{StandsFor, IsReady}
-use Rattle.hash_engine.specs.Memo.{IsRight, IsAnew, IsPut, HasPut}
+use Rattle.hash_engine.specs.Memo.{IsRightMemo, IsAnew, IsPut, HasPut}
 use Rattle.hash_engine.specs.Asked.{places_put, PutsOnly}
 use Rattle.hash_engine.specs.Found.{IsSameRule}
 use Rattle.hash_engine.specs.declared.memo.Memo.{Memo}
@@ -17,14 +17,14 @@ pub record CanSeek (next : List ℕ → ℕ) (state_count : ℕ) (t : Table) (me
     (k generations number : ℕ) : Type 0 where
   pub low : k ≤ 61
   pub ready : IsReady next state_count t.rows k generations number
-  pub right : IsRight next t.rows memo
+  pub right : IsRightMemo next t.rows memo
 
 -- those of the squares with these numbers can
 pub record CanSeekAll (next : List ℕ → ℕ) (state_count : ℕ) (t : Table) (memo : Memo)
     (k generations : ℕ) (numbers : List ℕ) : Type 0 where
   pub low : k ≤ 61
   pub ready : All (IsReady next state_count t.rows k generations) numbers
-  pub right : IsRight next t.rows memo
+  pub right : IsRightMemo next t.rows memo
 
 -- that of a square of more than 4 by 4 cells can, one generation later or more
 pub record CanCompute (next : List ℕ → ℕ) (state_count : ℕ) (t : Table) (memo : Memo)
@@ -56,11 +56,11 @@ PutsAll next k generations numbers t P =
 
 -- however a search ends: the rule means the same, the table has rows of squares on the way more, or
 -- none, and what is remembered is right
-pub record Keeps (next new_next : List ℕ → ℕ) (count new_count : ℕ)
+pub record KeepsOnWay (next new_next : List ℕ → ℕ) (count new_count : ℕ)
     (Way : (Square → Type 0) → Type 0) (t u : Table) (memo : Memo) : Type 0 where
   pub rule : IsSameRule next new_next count new_count
   pub grows : Grows t u
-  pub right : IsRight next u.rows memo
+  pub right : IsRightMemo next u.rows memo
   pub adds : (all : List Square) → Way (Contains all) → AreAmong all t.rows → AreAmong all u.rows
 
 -- where it finds what it sought: the rule was asked four times for each square that was put to it
@@ -98,13 +98,13 @@ FirstAreFound next Counted k generations many numbers t u memo found = (j d e : 
 abbrev pub KeepsFor : {R : Type 0} → (R → List ℕ → ℕ) → (R → ℕ) → R → R → ℕ → ℕ → ℕ →
     Table → Table → Memo → Type 0
 KeepsFor meaning states old new k generations number t u memo =
-    Keeps (meaning old) (meaning new) (states old) (states new)
+    KeepsOnWay (meaning old) (meaning new) (states old) (states new)
     (Makes (meaning old) k generations (sought t k number)) t u memo
 
 abbrev pub KeepsForAll : {R : Type 0} → (R → List ℕ → ℕ) → (R → ℕ) → R → R → ℕ → ℕ → List ℕ →
     Table → Table → Memo → Type 0
 KeepsForAll meaning states old new k generations numbers t u memo =
-    Keeps (meaning old) (meaning new) (states old) (states new)
+    KeepsOnWay (meaning old) (meaning new) (states old) (states new)
     (MakesAll (meaning old) k generations numbers t) t u memo
 
 -- what is found in it

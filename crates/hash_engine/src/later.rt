@@ -4,7 +4,7 @@ ghost use Rattle.std.specs.Prelude.{◌≡◌, IfOk, OnOk, Err};
 ghost use Rattle.square_table.specs.Made.{IsFull};
 ghost use Rattle.hash_engine.specs.Adding.{GrowsOnWay};
 ghost use Rattle.hash_engine.specs.Found.{KeepsRule, CanBeAsked, CanSearch, IsEnd, IsLater, Finds, AsksOnceFor};
-ghost use Rattle.hash_engine.specs.Memo.{IsRight};
+ghost use Rattle.hash_engine.specs.Memo.{IsRightMemo};
 ghost use Rattle.hash_engine.specs.Search.{CanSeek, CanSeekAll, CanCompute, CanPut, KeepsFor, KeepsForAll, FindsFor, FindsForAll, AsksFor, AsksForAll};
 
 use crate::counts::count_squares;
@@ -166,7 +166,7 @@ pub fn search<'a, Q: Ask, S: Stop>(
     requires { CanSearch (Q.meaning rule.old) (Q.state_count rule.old) table.old memo.old root }
     ensures grows { GrowsOnWay (Q.meaning rule.old) generations table.old root.entry table.new }
     ensures rule { KeepsRule Q.meaning Q.state_count rule.old rule.new }
-    ensures right { IsRight (Q.meaning rule.old) table.new.rows memo.new }
+    ensures right { IsRightMemo (Q.meaning rule.old) table.new.rows memo.new }
     ensures square { IfOk result
         (IsLater (Q.meaning rule.old) generations table.old root.entry table.new) }
     ensures end { IsEnd table.new (S.yes_count stop.old) (S.yes_count stop.new) result }

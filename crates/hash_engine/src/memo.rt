@@ -2,7 +2,7 @@
 
 ghost use Rattle.std.specs.Prelude.{◌≡◌, ◌+◌, ◌-◌, ◌^◌, ◌<◌, ◌≤◌, ℕ, List, get_or, nat_lt, IfSome, IfNone, OnOk, OnErr};
 ghost use Rattle.square_table.specs.Squares.{first_number};
-ghost use Rattle.hash_engine.specs.Memo.{IsRight, IsNoted, IsRemembered, HasNoFull, HasPut, Recalls, RecallsPut, StaysRight, StaysRightFor, StaysPutFor};
+ghost use Rattle.hash_engine.specs.Memo.{IsRightMemo, IsNoted, IsRemembered, HasNoFull, HasPut, RecallsResult, RecallsPut, StaysRight, StaysRightFor, StaysPutFor};
 
 use std::alloc::{AllocError, Global};
 
@@ -78,7 +78,7 @@ fn note(known: &mut Vec<u32>, number: u32, found: u32) -> Result<(), AllocError>
 impl Memo {
     /// Nothing yet.
     pub fn nothing(alloc: Global) -> Memo
-        ensures right { (next : List ℕ → ℕ) (rows : List (List ℕ)) → IsRight next rows result }
+        ensures right { (next : List ℕ → ℕ) (rows : List (List ℕ)) → IsRightMemo next rows result }
         ensures none { HasNoFull result }
         ensures put { (next : List ℕ → ℕ) (rows : List (List ℕ)) → HasPut next rows result }
     {
@@ -92,7 +92,7 @@ impl Memo {
 
     /// Gives up all results, and keeps their memory.
     pub fn clear(&mut self)
-        ensures { (next : List ℕ → ℕ) (rows : List (List ℕ)) → IsRight next rows self.new }
+        ensures { (next : List ℕ → ℕ) (rows : List (List ℕ)) → IsRightMemo next rows self.new }
     {
         Vec::clear(&mut self.full);
         Vec::clear(&mut self.part);
@@ -117,7 +117,7 @@ impl Memo {
     pub(crate) fn recall(&self, k: u8, generations: u64, number: u32) -> Option<u32>
         requires k { k ≤ 61 }
         requires number { first_number ≤ number }
-        ensures some { IfSome result (Recalls self.now k generations number) }
+        ensures some { IfSome result (RecallsResult self.now k generations number) }
         ensures put { IfSome result (λ _. RecallsPut self.now k generations number) }
         ensures none { IfNone result (generations ≡ 2 ^ k →
             get_or self.now.full.items (number - first_number) 0 ≡ 0) }

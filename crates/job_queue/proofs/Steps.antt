@@ -11,7 +11,7 @@ use Rattle.revision_jobs.specs.declared.answer.Job.{Job}
 use Rattle.revision_jobs.specs.declared.entries.Entries.{Entries}
 use Rattle.job_queue.specs.declared.rule.EndView.{EndView}
 use Rattle.job_queue.specs.declared.rule.Slip.{Slip}
-use Rattle.job_queue.specs.Balance.{AreOfKnown, Fits, IsBalanced, IsSending, IsTabled, IsTaking, end_view}
+use Rattle.job_queue.specs.Balance.{AreOfKnown, KnowsItsTable, IsBalanced, IsSending, IsTabled, IsTaking, end_view}
 use Rattle.job_queue.specs.Slips.{AreAmong, floor_of, slip_of}
 use Rattle.job_queue.specs.Tables.{IsOfKnown, table_in}
 use Rattle.job_queue.proofs.Shared.Once.{none_twice, rises_push}
@@ -54,11 +54,11 @@ known_none table (y ∷ ys) all = absurd all.0
 
 -- the ends fit after one of them changed
 fits_set : (seat : ℕ) (sent : List Slip) (table : Option Entries) (views : List EndView) (port : ℕ) (w : EndView)
-    → ((j : ℕ) (u : EndView) → j ≢ port → get_elem? views j ≡ some u → Fits seat sent table j u) → Fits seat sent table port w
-    → (j : ℕ) (u : EndView) → get_elem? (set views port w) j ≡ some u → Fits seat sent table j u
+    → ((j : ℕ) (u : EndView) → j ≢ port → get_elem? views j ≡ some u → KnowsItsTable seat sent table j u) → KnowsItsTable seat sent table port w
+    → (j : ℕ) (u : EndView) → get_elem? (set views port w) j ≡ some u → KnowsItsTable seat sent table j u
 fits_set seat sent table views port w others mine j u e =
     ⊎_elim
-    (λ (x : (j ≡ port) × (w ≡ u)). subst (λ (y : ℕ × EndView). Fits seat sent table y.0 y.1) (λ i. (sym x.0 i, x.1 i)) mine)
+    (λ (x : (j ≡ port) × (w ≡ u)). subst (λ (y : ℕ × EndView). KnowsItsTable seat sent table y.0 y.1) (λ i. (sym x.0 i, x.1 i)) mine)
     (λ (x : (j ≢ port) × (get_elem? views j ≡ some u)). others j u x.0 x.1)
     (at_set views port j w u e)
 
@@ -75,8 +75,8 @@ begins = record {
   alone = λ _. refl;
 }
   where
-    one : (port : ℕ) (v : EndView) → get_elem? (end_view true [] [] None ∷ []) port ≡ some v → Fits 0 [] None port v
-    one zero v e = subst (Fits 0 [] None 0) (some-injective _ _ e) record { sender = λ _. (refl, refl); knows = refl }
+    one : (port : ℕ) (v : EndView) → get_elem? (end_view true [] [] None ∷ []) port ≡ some v → KnowsItsTable 0 [] None port v
+    one zero v e = subst (KnowsItsTable 0 [] None 0) (some-injective _ _ e) record { sender = λ _. (refl, refl); knows = refl }
     one (suc port) v e = absurd (some-ne-none v (sym e))
 
 -- the sender sends a job
@@ -151,11 +151,11 @@ some_none table e = cc
 
 -- an end that neither sent nor took fits
 newcomer : (seat : ℕ) (sent : List Slip) (table : Option Entries) (views : List EndView)
-    → ((j : ℕ) (u : EndView) → get_elem? views j ≡ some u → Fits seat sent table j u)
-    → (j : ℕ) (u : EndView) → get_elem? (views ++ end_view false [] [] table ∷ []) j ≡ some u → Fits seat sent table j u
+    → ((j : ℕ) (u : EndView) → get_elem? views j ≡ some u → KnowsItsTable seat sent table j u)
+    → (j : ℕ) (u : EndView) → get_elem? (views ++ end_view false [] [] table ∷ []) j ≡ some u → KnowsItsTable seat sent table j u
 newcomer seat sent table views old j u e =
     ⊎_elim (old j u)
-    (λ (is : end_view false [] [] table ≡ u). subst (Fits seat sent table j) is record { sender = λ s. absurd (off s); knows = refl })
+    (λ (is : end_view false [] [] table ≡ u). subst (KnowsItsTable seat sent table j) is record { sender = λ s. absurd (off s); knows = refl })
     (at_snoc views (end_view false [] [] table) u j e)
 
 -- another taker is made

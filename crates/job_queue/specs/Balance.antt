@@ -36,7 +36,7 @@ AreOfKnown table [] = ⊤
 AreOfKnown table (job ∷ jobs) = IsOfKnown table job × AreOfKnown table jobs
 
 -- an end knows the table; the one that sends is this one, and knows what was sent
-pub record Fits (seat : ℕ) (sent : List Slip) (table : Option Entries) (port : ℕ) (v : EndView)
+pub record KnowsItsTable (seat : ℕ) (sent : List Slip) (table : Option Entries) (port : ℕ) (v : EndView)
     : Type 0 where
   pub sender : v.sends ≡ true → (port ≡ seat) × (v.sent ≡ sent)
   pub knows : v.table ≡ table
@@ -59,6 +59,6 @@ pub record IsBalanced (jobs : List Job) (views : List EndView) : Type 0 where
   pub balance : (weight : Slip → ℕ) →
       sum_by weight sent ≡ weight_taken weight views + weight_held weight jobs
   pub fits : (port : ℕ) (v : EndView) →
-      get_elem? views port ≡ some v → Fits seat sent table port v
+      get_elem? views port ≡ some v → KnowsItsTable seat sent table port v
   pub owned : AreOfKnown table jobs
   pub alone : table ≡ None → length views ≡ 1

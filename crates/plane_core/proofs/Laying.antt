@@ -65,9 +65,9 @@ first-outside s zero w x y out = refl
 first-outside s (suc n) w x y out =
     let one : suc n ≡ n + 1 = omega arith in
     let apart = false_from_ne_true (same_place (y, x) (s.y, s.x +ℤ pos n)) (λ e.
-      let at = same_is (y, x) (s.y, s.x +ℤ pos n) e in
-      let column : x ≡ s.x +ℤ pos n = ap (λ (p : Place). p.1) at in
-      out (ap (λ (p : Place). p.0) at) (omega (arith, ints)) (omega (arith, ints))) in
+    let at = same_is (y, x) (s.y, s.x +ℤ pos n) e in
+    let column : x ≡ s.x +ℤ pos n = ap (λ (p : Place). p.1) at in
+    out (ap (λ (p : Place). p.0) at) (omega (arith, ints)) (omega (arith, ints))) in
     ap (λ k. cell (lay (first_cells s k) w) x y) one
     ∙ drawn-more s n w x y
     ∙ cond-false _ _ _ apart

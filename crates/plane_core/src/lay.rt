@@ -214,11 +214,7 @@ fn slot(kids: &[u32; 4], count: usize) -> usize {
 
 // The number of the square of a row: 0 if it is empty, that of an equal row where a hint names one, and
 // else that of the row, which is added. A hint is the number of a row that was added shortly before.
-fn made(
-    rows: &mut Vec<SquareRow>,
-    hints: &mut [u32],
-    row: SquareRow,
-) -> Result<u32, AllocError>
+fn made(rows: &mut Vec<SquareRow>, hints: &mut [u32], row: SquareRow) -> Result<u32, AllocError>
     requires rows { AreRows rows.old.items × (length rows.old.items < 2 ^ 32) }
     requires row { IsRow rows.old.items row }
     ensures { IfOk result (λ n. IsMade rows.old.items rows.new.items row.level n
@@ -377,11 +373,7 @@ fn thinned(alloc: Global, rows: &mut Vec<SquareRow>, most: usize) -> Result<usiz
 }
 
 /// Makes the rows stand for the world after the spans are drawn in turn.
-pub fn lay_rows(
-    alloc: Global,
-    rows: &mut Vec<SquareRow>,
-    spans: &[Span],
-) -> Result<(), AllocError>
+pub fn lay_rows(alloc: Global, rows: &mut Vec<SquareRow>, spans: &[Span]) -> Result<(), AllocError>
     requires rows { AreRows rows.old.items × (length rows.old.items < 2 ^ 32) }
     requires spans { All CanBeDrawn spans.now }
     ensures rows { OnOk result (AreRows rows.new.items × (length rows.new.items < 2 ^ 32)) }

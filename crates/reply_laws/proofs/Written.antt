@@ -13,7 +13,7 @@ use Rattle.basics.proofs.Shared.Lists.{all_append}
 use Rattle.worlds.specs.declared.cell.CellSet.{CellSet}
 use Rattle.worlds.specs.Range.{IsInside}
 use Rattle.bookmarks.specs.declared.view.View.{View}
-use Rattle.bookmarks.specs.Within.{IsWithin, spans_plane}
+use Rattle.bookmarks.specs.Within.{KeepsViewLimits, spans_plane}
 use Rattle.bookmarks.proofs.Places.{area, spanned}
 use Rattle.basics.specs.Results.{◌>>=◌}
 use Rattle.text_lines.specs.Lines.{says}
@@ -100,7 +100,7 @@ sides w k h = grind (arith, and_parts, area, le-mul_of_pos_right, ltb-true, mul-
 signed-written : (z : ℤ) (n : ℕ) → IsTrue (spans_plane z n) → n < 2 ^ 32 → FitsSigned w64 z
 signed-written z n h small = grind (arith, ints, spanned)
 
-view-written : (v : View) → IsWithin v → IsWrittenView v
+view-written : (v : View) → KeepsViewLimits v → IsWrittenView v
 view-written v h = grind (arith, and_parts, sides, signed-written)
 
 -- the branches, bookmarks and interventions of a sound document
@@ -119,7 +119,7 @@ module _ (p : Plan) (sound : IsSound p) (small : IsCount p.revision) where
 
   bookmark-one : (xs : List Bookmark) → AllByRecursion (λ (b : Bookmark). b.id ≤ p.last_bookmark) xs
       → AreMarked p.branches xs → AllByRecursion (λ (b : Bookmark). b.generation ≤ 2 ^ 60) xs
-      → AllByRecursion (λ (b : Bookmark). IsWithin b.view) xs
+      → AllByRecursion (λ (b : Bookmark). KeepsViewLimits b.view) xs
       → AllByRecursion (λ (b : Bookmark). IsCount b.id × IsWritten (add_bookmark b)) xs
   bookmark-one [] given placed near within = tt
   bookmark-one (b ∷ bs) given placed near within =

@@ -33,6 +33,6 @@ result_in parts = record {
 
 -- a value in the answer to a job is that of the job's entry, and that there was no room is said
 -- only where the entry has none at the limit that the job was worked with
-pub record IsRight (job : Job) (limit : ℕ) (outcome : Result Value EvolveFault) : Type 0 where
+pub record IsRightAnswer (job : Job) (limit : ℕ) (outcome : Result Value EvolveFault) : Type 0 where
   pub value_is : IfOk outcome (λ found. found ≡ value (entry_of job.place))
   pub room : outcome ≡ Err EvolveFault.NoRoom → HasNoRoom limit (entry_of job.place)

@@ -11,9 +11,9 @@ use Rattle.revision_jobs.specs.declared.entry.Entry.TheVariants as entry
 use Rattle.revision_jobs.specs.Entries.{IsOf, entry_of}
 
 -- an engine for the rule computes the entry, if that is a step; for a view any will do
-abbrev pub Serves : NamedRule → Entry → Type 0
-Serves rule (entry.Step s) = AreAlike rule (arc_value s.rule)
-Serves rule (entry.View r) = ⊤
+abbrev pub EngineComputes : NamedRule → Entry → Type 0
+EngineComputes rule (entry.Step s) = AreAlike rule (arc_value s.rule)
+EngineComputes rule (entry.View r) = ⊤
 
 -- the rule is that of the entry but for its name, if the entry is a step
 abbrev pub HasRule : NamedRule → Entry → Type 0
@@ -31,4 +31,4 @@ IsEngineFor squares (entry.View r) None = ⊤
 -- the job is one of the table, and an engine for the rule computes its entry
 pub record CanServe (rule : NamedRule) (entries : Entries) (job : Job) : Type 0 where
   pub own : IsOf entries job.place
-  pub serves : Serves rule (entry_of job.place)
+  pub serves : EngineComputes rule (entry_of job.place)

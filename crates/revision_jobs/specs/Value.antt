@@ -10,7 +10,7 @@ use Rattle.step_engine.specs.Evolved.{CanEvolve}
 use Rattle.rule_tree.specs.Rule.{next_of, states_of}
 use Rattle.bookmarks.specs.Text.{text_of}
 pub use Rattle.bookmarks.specs.Value.{Value, pattern, text}
-use Rattle.bookmarks.specs.Within.{IsWithin}
+use Rattle.bookmarks.specs.Within.{KeepsViewLimits}
 use Rattle.revision_jobs.specs.declared.entry.Entry.{Entry}
 use Rattle.revision_jobs.specs.declared.entry.Entry.TheVariants as entry
 use Rattle.revision_jobs.specs.declared.entry.Step.{Step}
@@ -45,7 +45,7 @@ CanBeStepped s = All CanBeLaid s.cells
 -- the cells of a rendering can be laid, what they give has states of the rule, and the view keeps
 -- its limits
 abbrev pub CanBeRendered : Rendering → Type 0
-CanBeRendered r = All CanBeLaid r.cells × AllBelow r.states (world_in r) × IsWithin r.view
+CanBeRendered r = All CanBeLaid r.cells × AllBelow r.states (world_in r) × KeepsViewLimits r.view
 
 -- the step or the view that the entry is can be computed
 abbrev pub CanBeWorked : Entry → Type 0

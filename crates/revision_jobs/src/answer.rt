@@ -1,6 +1,6 @@
 //! Jobs and their answers.
 ghost use Rattle.std.specs.Prelude.{◌≡◌, IfOk};
-ghost use Rattle.revision_jobs.specs.Answer.{IsRight, outcome_of, result_in};
+ghost use Rattle.revision_jobs.specs.Answer.{IsRightAnswer, outcome_of, result_in};
 
 use crate::entries::Place;
 use basics::Listing;
@@ -59,7 +59,7 @@ impl Model for Answer {
 
     ghost coded = { Prim.hlevel (codes, coded_world) };
 
-    ghost use Rattle.revision_jobs.specs.Answer.{IsRight, outcome_of};
+    ghost use Rattle.revision_jobs.specs.Answer.{IsRightAnswer, outcome_of};
 
     ghost view = { λ answer. record {
       job = answer.job;
@@ -67,7 +67,7 @@ impl Model for Answer {
       outcome = outcome_of answer.outcome;
     } };
 
-    ghost invariant = { λ answer. IsRight answer.job answer.limit (outcome_of answer.outcome) };
+    ghost invariant = { λ answer. IsRightAnswer answer.job answer.limit (outcome_of answer.outcome) };
 }
 
 impl Job {
@@ -120,7 +120,7 @@ impl Answer {
     /// The job, what came of it, and the limit that it was worked with.
     pub fn into_parts(self) -> Parts
         ensures parts { result_in result ≡ self }
-        ensures right { IsRight result.job result.limit (outcome_of result.outcome) }
+        ensures right { IsRightAnswer result.job result.limit (outcome_of result.outcome) }
     {
         let Answer {
             job,

@@ -1,6 +1,6 @@
 //! What is to be computed.
 ghost use Rattle.std.specs.Prelude.{◌↔◌, IfOk, IsTrue};
-ghost use Rattle.revision_jobs.specs.Serving.{HasRule, IsEngineFor, Serves};
+ghost use Rattle.revision_jobs.specs.Serving.{HasRule, IsEngineFor, EngineComputes};
 
 use basics::Listing;
 use bookmarks::View;
@@ -49,7 +49,7 @@ impl Entry {
     /// name, and for a view any engine will do.
     pub fn is_served_by(&self, rule: &Rule) -> bool
         ensures same { IsTrue result ↔ HasRule rule.now self.now }
-        ensures serves { IsTrue result → Serves rule.now self.now }
+        ensures serves { IsTrue result → EngineComputes rule.now self.now }
     {
         match self {
             Entry::Step(step) => rule.equals(&step.rule),

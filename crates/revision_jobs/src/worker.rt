@@ -3,10 +3,10 @@ ghost use Rattle.std.specs.Prelude.{◌≡◌, Err, IfOk, Ok};
 ghost use Rattle.std.specs.Arc.{arc_value};
 ghost use Rattle.worlds.specs.Stop.{CountsStop};
 ghost use Rattle.rule_tree.specs.Rule.{AreAlike};
-ghost use Rattle.revision_jobs.specs.Answer.{IsRight, outcome_of};
+ghost use Rattle.revision_jobs.specs.Answer.{IsRightAnswer, outcome_of};
 ghost use Rattle.revision_jobs.specs.Entries.{IsOf, entry_of};
 ghost use Rattle.revision_jobs.specs.Room.{HasNoRoom, IsStepSpent};
-ghost use Rattle.revision_jobs.specs.Serving.{CanServe, Serves};
+ghost use Rattle.revision_jobs.specs.Serving.{CanServe, EngineComputes};
 ghost use Rattle.revision_jobs.specs.Value.{
   CanBeRendered,
   CanBeStepped,
@@ -49,7 +49,7 @@ pub fn work<G: Gate, S: Stop>(
 ) -> Answer
     requires { IsOf entries.now job.place }
     ensures named { (result.job ≡ job) × (result.limit ≡ limit) }
-    ensures right { IsRight result.job result.limit result.outcome }
+    ensures right { IsRightAnswer result.job result.limit result.outcome }
     ensures room { result.outcome ≡ Err EvolveFault.NoRoom → HasNoRoom limit (entry_of job.place) }
 
     // It gave up for a stop exactly where the stop said yes.
@@ -82,7 +82,7 @@ pub fn work_by<G: Gate, S: Stop>(
 ) -> Answer
     requires { CanServe engine.old.rule entries.now job }
     ensures named { (result.job ≡ job) × (result.limit ≡ engine.old.limit) }
-    ensures right { IsRight result.job result.limit result.outcome }
+    ensures right { IsRightAnswer result.job result.limit result.outcome }
     ensures room { result.outcome ≡ Err EvolveFault.NoRoom →
         HasNoRoom engine.old.limit (entry_of job.place) }
     ensures stop { CountsStop result.outcome (Err EvolveFault.Stopped)
@@ -132,7 +132,7 @@ fn computed_by<S: Stop>(
     entry: &Entry,
     stop: &mut S,
 ) -> Result<Outcome, EvolveFault>
-    requires { CanBeWorked entry.now × Serves engine.old.rule entry.now }
+    requires { CanBeWorked entry.now × EngineComputes engine.old.rule entry.now }
     ensures value { IfOk result (λ outcome. outcome_of outcome ≡ Ok (value entry.now)) }
     ensures room { result ≡ Err EvolveFault.NoRoom → HasNoRoom engine.old.limit entry.now }
     ensures stop { CountsStop result (Err EvolveFault.Stopped)

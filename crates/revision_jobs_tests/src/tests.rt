@@ -1,6 +1,6 @@
 //! Worked jobs of the rule X.
 ghost use Rattle.std.specs.Prelude.{IsTrue};
-ghost use Rattle.bookmarks.specs.Within.{IsWithin};
+ghost use Rattle.bookmarks.specs.Within.{KeepsViewLimits};
 ghost use Rattle.revision_jobs.specs.Entries.{IsOf};
 ghost use Rattle.step_engine.specs.Evolved.{CanEvolve};
 
@@ -40,7 +40,7 @@ fn can_evolve(plane: &Plane, states: u16, gens: u64) -> bool
 }
 
 fn is_within(view: &View) -> bool
-    ensures { IsTrue result → IsWithin view.now }
+    ensures { IsTrue result → KeepsViewLimits view.now }
 {
     view.has_window_size() && view.lies_in_range()
 }

@@ -6,7 +6,7 @@ use Rattle.std.specs.List.{AllByRecursion}
 use Rattle.worlds.specs.declared.cell.CellSet.{CellSet}
 use Rattle.rule_tree.specs.Rule.{states_of}
 use Rattle.bookmarks.specs.declared.view.View.{View}
-use Rattle.bookmarks.specs.Within.{IsWithin}
+use Rattle.bookmarks.specs.Within.{KeepsViewLimits}
 use Rattle.schedule.specs.declared.document.Intervention.{Intervention}
 use Rattle.schedule.specs.declared.document.Bookmark.{Bookmark}
 use Rattle.schedule.specs.Plan.{Plan}
@@ -152,7 +152,7 @@ listed_bookmarks p sound = grind arith
 
 IsSound-bookmarks : (p : Plan) (bs : List Bookmark) (last : ℕ) → IsSound p
     → IsListed bookmark_id (λ (b : Bookmark). b.generation ≤ 2 ^ 60) bs last
-    → AllByRecursion (λ (b : Bookmark). IsWithin b.view) bs → last ≤ p.revision + 1
+    → AllByRecursion (λ (b : Bookmark). KeepsViewLimits b.view) bs → last ≤ p.revision + 1
     → repeat_marks (record (revised p) { bookmarks = bs; last_bookmark = last }) ≤ 8192
     → AreMarked p.branches bs → IsSound (record (revised p) { bookmarks = bs; last_bookmark = last })
 IsSound-bookmarks p bs last sound listed views within marks marked = grind arith

@@ -8,7 +8,7 @@ use Rattle.std.proofs.lemmas.Bool.Decides.{nat_tests}
 use Rattle.worlds.specs.declared.cell.CellSet.{CellSet}
 use Rattle.rule_tree.specs.Rule.{states_of}
 use Rattle.bookmarks.specs.declared.view.View.{View}
-use Rattle.bookmarks.specs.Within.{IsWithin}
+use Rattle.bookmarks.specs.Within.{KeepsViewLimits}
 use Rattle.schedule.specs.declared.acts.Acts.{Acts}
 use Rattle.schedule.specs.declared.fault.EditFault.{EditFault}
 use Rattle.schedule.specs.declared.fault.EditFault.TheVariants.{GenerationTooFar, BadRepeat, BeforeFork, NoSuchBranch, TooManyInterventions, TooManyBookmarks, TooManyBranches}
@@ -132,7 +132,7 @@ pub record FitBookmark (p : Plan) (b generation : ℕ) (view : View) : Type 0 wh
   pub near : generation ≤ 2 ^ 60
   pub placed : IsPlaced p.branches b generation
   pub few : length p.bookmarks < 4096
-  pub within : IsWithin view
+  pub within : KeepsViewLimits view
   pub marks : FitMarks true p (changed_bookmarks p b generation view).plan
 
 pub fit_bookmark : (p : Plan) (b generation : ℕ) (view : View)

@@ -4,7 +4,7 @@ use Rattle.std.specs.List.{AllByRecursion}
 use Rattle.worlds.specs.Range.{IsInside, HasMargin, AllBelow}
 use Rattle.worlds.specs.declared.cell.CellSet.{CellSet}
 use Rattle.rule_tree.specs.Rule.{states_of}
-use Rattle.bookmarks.specs.Within.{IsWithin}
+use Rattle.bookmarks.specs.Within.{KeepsViewLimits}
 use Rattle.schedule.specs.declared.document.Intervention.{Intervention}
 use Rattle.schedule.specs.declared.document.Bookmark.{Bookmark}
 use Rattle.schedule.specs.declared.branch.Branch.{Branch}
@@ -72,7 +72,7 @@ pub record IsSound (p : Plan) : Type 0 where
   pub interventions_within : p.last_intervention ≤ p.revision
   pub few_marks : repeat_marks p ≤ most_marks
   pub bookmarks_near : AllByRecursion (λ (b : Bookmark). b.generation ≤ 2 ^ 60) p.bookmarks
-  pub views_within : AllByRecursion (λ (b : Bookmark). IsWithin b.view) p.bookmarks
+  pub views_within : AllByRecursion (λ (b : Bookmark). KeepsViewLimits b.view) p.bookmarks
   pub bookmarks_rise : IdsRise bookmark_id p.bookmarks
   pub bookmarks_given : AllByRecursion (λ (b : Bookmark). b.id ≤ p.last_bookmark) p.bookmarks
   pub few_bookmarks : length p.bookmarks ≤ 4096

@@ -1,10 +1,10 @@
 -- A line that is being read.
 use Rattle.std.proofs.Common.{◌≡◌, ◌≢◌, ℕ, ◌==◌, List, [], ◌∷◌, ◌++◌, true, false, Bool, sym, ◌∙◌, ap, refl, append_assoc, append-nil, Option, Some, None}
-use Rattle.script_lines.specs.Ahead.{Ahead, Takes}
+use Rattle.script_lines.specs.Ahead.{Ahead, TakesBytes}
 use Rattle.script_lines.proofs.Shared.Ahead.{takes_then}
 use Rattle.text_lines.specs.Lines.{NoLineFeed, strip_carriage_return}
 use Rattle.script_lines.specs.KeptLine.{Took, Saw, waiting}
-use Rattle.script_lines.specs.Text.{Grows}
+use Rattle.script_lines.specs.Text.{GrowsText}
 use Rattle.script_lines.specs.declared.kept_line.KeptLine.{KeptLine}
 use Rattle.basics.proofs.Shared.Lists.{push_not_nil}
 
@@ -12,8 +12,8 @@ use Rattle.basics.proofs.Shared.Lists.{push_not_nil}
 pub record IsReading (old new : Ahead) (before after : Option (List ℕ)) (line : KeptLine) (empty : Bool) : Type 0 where
   pub seen : List ℕ
   pub no_line_feed : NoLineFeed seen
-  pub taken : Takes old new seen
-  pub grows : Grows before after seen
+  pub taken : TakesBytes old new seen
+  pub grows : GrowsText before after seen
   pub saw : Saw line seen
   pub nothing : empty ≡ true → seen ≡ []
   pub some : empty ≡ false → seen ≢ []
@@ -32,14 +32,14 @@ strip_return-push [] b h = rw h refl
 strip_return-push (c ∷ []) b h = ap (λ t. c ∷ t) (strip_return-push [] b h)
 strip_return-push (c ∷ d ∷ bs) b h = ap (λ t. c ∷ t) (strip_return-push (d ∷ bs) b h)
 
-pub grows-trans : (a b c : Option (List ℕ)) (xs ys : List ℕ) → Grows a b xs → Grows b c ys → Grows a c (xs ++ ys)
+pub grows-trans : (a b c : Option (List ℕ)) (xs ys : List ℕ) → GrowsText a b xs → GrowsText b c ys → GrowsText a c (xs ++ ys)
 grows-trans a b None xs ys f g = tt
 grows-trans a None (Some z) xs ys f g = absurd g
 grows-trans None (Some y) (Some z) xs ys f g = absurd f
 grows-trans (Some x) (Some y) (Some z) xs ys f g = g ∙ ap (λ t. t ++ ys) f ∙ append_assoc x xs ys
 
 -- one more byte
-pub reads_on : (old mid new : Ahead) (before between after : Option (List ℕ)) (line next : KeptLine) (empty : Bool) (b : ℕ) → (b == 10) ≡ false → Takes mid new (b ∷ []) → Grows between after (b ∷ [])
+pub reads_on : (old mid new : Ahead) (before between after : Option (List ℕ)) (line next : KeptLine) (empty : Bool) (b : ℕ) → (b == 10) ≡ false → TakesBytes mid new (b ∷ []) → GrowsText between after (b ∷ [])
     → ((seen : List ℕ) → Saw line seen → Saw next (seen ++ b ∷ [])) → IsReading old mid before between line empty → IsReading old new before after next false
 reads_on old mid new before between after line next empty b k c g s r = record {
   seen = r.seen ++ b ∷ [];

@@ -8,7 +8,7 @@ pub record Ahead : Type 0 where
   pub room : ℕ
 
 -- these bytes were taken
-pub record Takes (old new : Ahead) (bs : List ℕ) : Type 0 where
+pub record TakesBytes (old new : Ahead) (bs : List ℕ) : Type 0 where
   pub consumed : Consumes old.bytes new.bytes bs
   pub counted : new.room + length bs ≡ old.room
 

@@ -3,7 +3,7 @@ use Rattle.std.specs.Prelude.{◌≡◌, ◌≢◌, ℕ, ◌≤◌, ◌==◌, Li
 use Rattle.std.specs.Io.KnownBytes.{IsAtEnd}
 use Rattle.text_lines.specs.Blanks.{trim_start, trim_end, trim, IsTrimmed}
 use Rattle.text_lines.specs.Lines.{strip_carriage_return}
-use Rattle.script_lines.specs.Ahead.{Ahead, Takes}
+use Rattle.script_lines.specs.Ahead.{Ahead, TakesBytes}
 use Rattle.script_lines.specs.Words.{squashed}
 use Rattle.script_lines.specs.declared.kept_line.Tail.{Tail}
 use Rattle.script_lines.specs.declared.kept_line.Tail.TheVariants.{Whole, Blank, Cut}
@@ -81,10 +81,10 @@ pub record Says (line : KeptLine) (says : List ℕ) : Type 0 where
 -- a line with its end was taken, or the last line, or there was none
 abbrev pub TakesLine : Found → Ahead → Ahead → List ℕ → KeptLine → Type 0
 TakesLine found.Line old new seen line =
-    Takes old new (seen ++ 10 ∷ []) × Says line (trim (strip_carriage_return seen))
+    TakesBytes old new (seen ++ 10 ∷ []) × Says line (trim (strip_carriage_return seen))
 TakesLine found.Last old new seen line =
-    Takes old new seen × IsAtEnd new.bytes × (seen ≢ []) × Says line (trim seen)
-TakesLine found.End old new seen line = (seen ≡ []) × Takes old new [] × IsAtEnd new.bytes
+    TakesBytes old new seen × IsAtEnd new.bytes × (seen ≢ []) × Says line (trim seen)
+TakesLine found.End old new seen line = (seen ≡ []) × TakesBytes old new [] × IsAtEnd new.bytes
 
 -- the bytes of the line with its end
 abbrev pub raw_of : Found → List ℕ → List ℕ

@@ -2,10 +2,10 @@
 use Rattle.std.specs.Prelude.{◌≡◌, ℕ, ◌++◌, List, Option, Some, None, length}
 
 -- the text grew by these bytes, unless memory ran out
-abbrev pub Grows : Option (List ℕ) → Option (List ℕ) → List ℕ → Type 0
-Grows old None bs = Unit {0}
-Grows None (Some ys) bs = ⊥
-Grows (Some xs) (Some ys) bs = ys ≡ xs ++ bs
+abbrev pub GrowsText : Option (List ℕ) → Option (List ℕ) → List ℕ → Type 0
+GrowsText old None bs = Unit {0}
+GrowsText None (Some ys) bs = ⊥
+GrowsText (Some xs) (Some ys) bs = ys ≡ xs ++ bs
 
 -- how many bytes are kept
 abbrev pub len_of : Option (List ℕ) → ℕ

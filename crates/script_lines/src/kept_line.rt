@@ -1,10 +1,10 @@
 //! A line of a script, of which memory may be wanted to keep all.
 ghost use Rattle.std.specs.Prelude.{◌≡◌, ◌≢◌, ℕ, ◌+◌, ◌<◌, ◌≤◌, ◌++◌, ◌∷◌, [], List, length, IfOk, OnOk, OnErr, MatchOption, vec_capacity};
-ghost use Rattle.script_lines.specs.Ahead.{Takes};
+ghost use Rattle.script_lines.specs.Ahead.{TakesBytes};
 ghost use Rattle.text_lines.specs.Blanks.{trim};
 ghost use Rattle.text_lines.specs.Lines.{NoLineFeed, strip_carriage_return};
 ghost use Rattle.script_lines.specs.Input.{ahead, FailsOrFull, IsDrained};
-ghost use Rattle.script_lines.specs.Text.{Grows};
+ghost use Rattle.script_lines.specs.Text.{GrowsText};
 ghost use Rattle.script_lines.specs.Words.{words, squashed};
 
 use crate::input::Input;
@@ -159,7 +159,7 @@ impl KeptLine {
         }
     }
 
-    // Takes the carriage return that waited.
+    // TakesBytes the carriage return that waited.
     fn settle(&mut self)
         ensures { (seen : List ℕ) → Saw self.old seen → Took self.new seen }
     {
@@ -203,12 +203,12 @@ impl KeptLine {
         text: &mut Text,
     ) -> Result<Found, Failed>
         ensures line { IfOk result (λ found. (seen : List ℕ) × NoLineFeed seen
-            × Grows text.old text.new (raw_of found seen)
+            × GrowsText text.old text.new (raw_of found seen)
             × TakesLine found (ahead (R.remaining reader.old.inner) reader.old.given input.old)
             (ahead (R.remaining reader.new.inner) reader.new.given input.new) seen self.new) }
         ensures worked { OnOk result (reader.new.failures ≡ reader.old.failures) }
         ensures err { OnErr result ((seen : List ℕ) × NoLineFeed seen
-            × Takes (ahead (R.remaining reader.old.inner) reader.old.given input.old)
+            × TakesBytes (ahead (R.remaining reader.old.inner) reader.old.given input.old)
             (ahead (R.remaining reader.new.inner) reader.new.given input.new) seen) }
         ensures failed { OnErr result (IsDrained input.new.unread
             × FailsOrFull reader.old.failures reader.new.failures reader.new.given) }

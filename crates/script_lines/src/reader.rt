@@ -3,7 +3,7 @@ ghost use Rattle.std.specs.Prelude.{◌≡◌, ◌<◌, ◌≤◌, IfOk, OnOk, O
 ghost use Rattle.text_lines.specs.Lines.{Broken};
 ghost use Rattle.script_lines.specs.Ahead.{fresh_reader, IsDrawn};
 ghost use Rattle.script_lines.specs.Input.{FailsOrFull};
-ghost use Rattle.script_lines.specs.Script.{Finds, next_number, StopsInLine, NoEndAmong, ReadsText, TakesInto};
+ghost use Rattle.script_lines.specs.Script.{FindsLine, next_number, StopsInLine, NoEndAmong, ReadsText, TakesInto};
 
 use crate::input::Input;
 use crate::kept_line::{Found, KeptLine};
@@ -113,7 +113,7 @@ impl<R: Read, L: Ledger> CountedReader<R, L> {
 
     /// Takes the next line, if there is one. It fails where a read failed or 2^64 - 1 bytes came.
     pub fn next_line(&mut self, line: &mut KeptLine) -> Result<Found, Failed>
-        ensures found { IfOk result (λ found. Finds found self.old.ahead self.new.ahead line.new) }
+        ensures found { IfOk result (λ found. FindsLine found self.old.ahead self.new.ahead line.new) }
         ensures number { IfOk result (λ found. self.new.lines ≡ next_number found self.old.lines) }
         ensures worked { OnOk result (self.new.failures ≡ self.old.failures) }
 

@@ -1,6 +1,6 @@
 //! The bytes of a text, as far as there is memory for them.
 ghost use Rattle.std.specs.Prelude.{◌≡◌, ◌∷◌, [], Some, None, take, MatchOption};
-ghost use Rattle.script_lines.specs.Text.{Grows, len_of};
+ghost use Rattle.script_lines.specs.Text.{GrowsText, len_of};
 ghost use Rattle.std.specs.Option.{option_map};
 
 use std::alloc::Global;
@@ -48,7 +48,7 @@ impl Text {
 
     /// One more byte.
     pub(crate) fn push(&mut self, byte: u8)
-        ensures { Grows self.old self.new (byte ∷ []) }
+        ensures { GrowsText self.old self.new (byte ∷ []) }
     {
         if let Some(bytes) = &mut self.bytes
             && bytes.push(byte).is_err()

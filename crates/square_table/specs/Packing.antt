@@ -65,8 +65,8 @@ pub record IsPadded (rows : List (List ℕ)) (q : Quarters) : Type 0 where
   pub is : square_by rows q ≡ centred (q.level - 1 - 1) nw ne sw se
 
 -- a world that has the one square round the origin has the other there
-abbrev pub AreAlike : List (List ℕ) → Quarters → Quarters → Type 0
-AreAlike rows q r = CentredAlike q.level (square_by rows q) r.level (square_by rows r)
+abbrev pub SharesSquare : List (List ℕ) → Quarters → Quarters → Type 0
+SharesSquare rows q r = CentredAlike q.level (square_by rows q) r.level (square_by rows r)
 
 -- a world that has the table's square round the origin has the one with the quadrants there
 abbrev pub IsAlike : Table → squares.Square → Quarters → Type 0

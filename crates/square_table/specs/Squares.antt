@@ -84,7 +84,7 @@ pub record Grows (old new : Table) : Type 0 where
   pub rows : new.rows ≡ old.rows ++ more
 
 -- each square of the one table is one of the other, with the same cells
-pub record Keeps (old new : Table) : Type 0 where
+pub record KeepsSquares (old new : Table) : Type 0 where
   pub limit : new.limit ≡ old.limit
   pub held : (s : Square) → IsHeld old s → IsHeld new s
   pub cells : (s : Square) → IsHeld old s → cells_of new s ≡ cells_of old s

@@ -8,7 +8,7 @@ ghost use Rattle.plane_core.specs.Rows.{number_row, same_row, completed};
 ghost use Rattle.plane_core.specs.Walks.{Walks};
 ghost use Rattle.square_table.specs.Squares.{IsHeld, IsNumber, AreNumbers, square_in, level_of, cells_of};
 ghost use Rattle.square_table.specs.Centred.{IsCentred};
-ghost use Rattle.square_table.specs.Packing.{IsPacking, Packs, WalksFour, IsPadded, AreAlike, IsAlike, square_by};
+ghost use Rattle.square_table.specs.Packing.{IsPacking, Packs, WalksFour, IsPadded, SharesSquare, IsAlike, square_by};
 
 use crate::chains::is_same;
 use crate::renumbering::Renumbering;
@@ -61,7 +61,7 @@ impl<'a> SquareTable<'a> {
         ensures level { result.level ≡ whole.level - 1 }
         ensures numbers { AreNumbers self.now.rows (result.level - 1) result.kids }
         ensures centred { (62 < whole.level) ⊎ IsPadded self.now.rows whole →
-            AreAlike self.now.rows whole result }
+            SharesSquare self.now.rows whole result }
     {
         let kids = whole.kids;
         let nw = self.quadrants(kids[0])[3];

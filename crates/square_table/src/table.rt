@@ -2,7 +2,7 @@
 ghost use Rattle.std.specs.Prelude.{◌≡◌, ℕ, ◌+◌, ◌-◌, ◌^◌, ◌<◌, ◌≤◌, length, map, slice_index_or, vec_len, [], ◌∷◌, ◌++◌, IfOk, IfSome, IfNone, OnOk, OnErr, Err};
 ghost use Rattle.worlds.specs.Square.{one, empty_square};
 ghost use Rattle.square_table.specs.Chains.{kids_of, IsChained, IsAbsent};
-ghost use Rattle.square_table.specs.Squares.{Table, IsNumber, IsHeld, IsSquareOf, Grows, GrowsBy, Keeps, AreFour, IsJoined, Lacks, Tells, with_row, first_number, kids_at, level_of, number_of, AreDistinct};
+ghost use Rattle.square_table.specs.Squares.{Table, IsNumber, IsHeld, IsSquareOf, Grows, GrowsBy, KeepsSquares, AreFour, IsJoined, Lacks, Tells, with_row, first_number, kids_at, level_of, number_of, AreDistinct};
 ghost use Rattle.square_table.specs.Made.{IsFull};
 ghost use Rattle.square_table.specs.Loading.{GrowsFrom};
 ghost use Rattle.square_table.specs.declared.square.Square.{Square};
@@ -237,7 +237,7 @@ impl<'a> SquareTable<'a> {
     pub fn join(&mut self, four: [Square<'a>; 4]) -> Result<Square<'a>, TableFault>
         requires four { (d : Square) → AreFour self.old (level_of (slice_index_or four 0 d)) four }
         requires level { (d : Square) → level_of (slice_index_or four 0 d) ≤ 63 }
-        ensures keeps { Keeps self.old self.new }
+        ensures keeps { KeepsSquares self.old self.new }
         ensures one { GrowsBy (map number_of four.entry) self.old self.new }
         ensures joined { IfOk result (IsJoined self.old four.entry self.new) }
         ensures unchanged { OnErr result (self.new ≡ self.old) }

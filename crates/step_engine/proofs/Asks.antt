@@ -13,7 +13,7 @@ use Rattle.worlds.specs.Lay.{lay, lay-push}
 use Rattle.square_tree.specs.Cells.{Cells, IsHeld, state_at}
 use Rattle.square_tree.specs.Cells as patches
 use Rattle.step_engine.specs.declared.asked.Asked.{Asked}
-use Rattle.step_engine.specs.Generation.{IsKept}
+use Rattle.step_engine.specs.Generation.{IsKeptCell}
 use Rattle.step_engine.specs.Asked.{follows, HasAsked, AsksMore, listed_as, IsNoted}
 
 -- a place that was one of these
@@ -32,7 +32,7 @@ pub HasAsked-none : (next : List ℕ → ℕ) (w : World) (a : Asked) → a.patc
 HasAsked-none next w a keeps none = record {
   says = λ x y. ap (λ (c : Cells). state_at c x y) keeps ∙ finite.get-empty place_cmp (y, x);
   laid = ap (λ cs. lay cs blank) none ∙ sym (fill-none (follows next w) blank);
-  listed = subst (All (IsKept a.patch.level (follows next w))) (sym none) (All-nil (IsKept a.patch.level (follows next w)));
+  listed = subst (All (IsKeptCell a.patch.level (follows next w))) (sym none) (All-nil (IsKeptCell a.patch.level (follows next w)));
   still = λ _ x y h. absurd (cc);
 }
 
@@ -71,10 +71,10 @@ lay-listed : (cs : List CellSet) (x y : ℤ) (s : ℕ) → cell (lay cs blank) x
 lay-listed cs x y zero dead = grind (arith, append-nil, put-itself (lay cs blank) x y 0)
 lay-listed cs x y (suc n) dead = lay-push cs (record { x = x; y = y; state = suc n }) blank
 
-All-listed : (l : ℕ) (f : ℤ → ℤ → ℕ) (cs : List CellSet) (x y : ℤ) (s : ℕ) → f x y ≡ s → s < 256 → IsHeld l x y → All (IsKept l f) cs → All (IsKept l f) (cs ++ listed_as x y s)
+All-listed : (l : ℕ) (f : ℤ → ℤ → ℕ) (cs : List CellSet) (x y : ℤ) (s : ℕ) → f x y ≡ s → s < 256 → IsHeld l x y → All (IsKeptCell l f) cs → All (IsKeptCell l f) (cs ++ listed_as x y s)
 All-listed l f cs x y zero is small held all = rw append-nil all
 All-listed l f cs x y (suc n) is small held all =
-    All-push (IsKept l f) cs (record { x = x; y = y; state = suc n }) all (record { live = omega (arith, is); state = small; held = held })
+    All-push (IsKeptCell l f) cs (record { x = x; y = y; state = suc n }) all (record { live = omega (arith, is); state = small; held = held })
 
 -- at a place that has none
 pub AsksMore-noted : (next : List ℕ → ℕ) (w : World) (a b : Asked) (x y : ℤ) (before state : ℕ) → is_some (state_at a.patch x y) ≡ false → IsHeld a.patch.level x y
@@ -96,7 +96,7 @@ AsksMore-noted next w a b x y before state has held was is small noted = record 
         laid = grind (arith, lay-listed a.cells.items x y state, fill-push ps x y f);
         listed =
             rw noted.cells
-            (subst (λ l. All (IsKept l f) (a.cells.items ++ listed_as x y state)) (sym (ap (λ (c : Cells). c.level) noted.patch))
+            (subst (λ l. All (IsKeptCell l f) (a.cells.items ++ listed_as x y state)) (sym (ap (λ (c : Cells). c.level) noted.patch))
             (All-listed a.patch.level f a.cells.items x y state (sym is) small held h.listed));
         still = λ s x' y' e.
             grind (

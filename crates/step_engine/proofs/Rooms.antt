@@ -4,10 +4,10 @@ use Rattle.std.specs.Prelude.{All}
 use Rattle.std.proofs.lemmas.Int.{ints}
 use Rattle.worlds.specs.declared.cell.CellSet.{CellSet}
 use Rattle.square_tree.specs.Cells.{IsHeld}
-use Rattle.step_engine.specs.Room.{HasRoom, CellHasRoom}
+use Rattle.step_engine.specs.Room.{HasRoomAround, CellHasRoom}
 
 -- a place at or around the cell
-pub held_near : (l : ℕ) (x y x' y' : ℤ) → HasRoom l x y → (x -ℤ pos 1) ≤ℤ x' → x' ≤ℤ (x +ℤ pos 1) → (y -ℤ pos 1) ≤ℤ y' → y' ≤ℤ (y +ℤ pos 1) → IsHeld l x' y'
+pub held_near : (l : ℕ) (x y x' y' : ℤ) → HasRoomAround l x y → (x -ℤ pos 1) ≤ℤ x' → x' ≤ℤ (x +ℤ pos 1) → (y -ℤ pos 1) ≤ℤ y' → y' ≤ℤ (y +ℤ pos 1) → IsHeld l x' y'
 held_near l x y x' y' room left right top bottom = omega (arith, ints)
 
 -- cells with room lie in the square themselves

@@ -8,7 +8,7 @@ use Rattle.worlds.specs.Fill.{fill}
 use Rattle.worlds.specs.Step.{around}
 use Rattle.square_tree.specs.Cells.{put, state_at}
 use Rattle.step_engine.specs.declared.asked.Asked.{Asked}
-use Rattle.step_engine.specs.Generation.{IsKept}
+use Rattle.step_engine.specs.Generation.{IsKeptCell}
 
 -- the state of (x, y) in the generation after w
 abbrev pub follows : (List ℕ → ℕ) → World → ℤ → ℤ → ℕ
@@ -19,7 +19,7 @@ pub record HasAsked (next : List ℕ → ℕ) (w : World) (ps : List Place) (a :
   pub says : (x y : ℤ) → state_at a.patch x y
       ≡ cond (list_any (same_place (y, x)) ps) (Some (follows next w x y)) None
   pub laid : lay a.cells.items blank ≡ fill ps (follows next w) blank
-  pub listed : All (IsKept a.patch.level (follows next w)) a.cells.items
+  pub listed : All (IsKeptCell a.patch.level (follows next w)) a.cells.items
   pub still : a.is_still ≡ true → (x y : ℤ) → list_any (same_place (y, x)) ps ≡ true →
       follows next w x y ≡ cell w x y
 

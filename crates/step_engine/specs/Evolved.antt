@@ -31,7 +31,7 @@ nothing_shared = record { squares = 0; fours = 0; base = 0 }
 
 -- a report of no more squares than there may be, of no more of 4 by 4 cells than these, and of no
 -- more put to the rule than those
-pub record IsWithin (limit : ℕ) (report : Report) : Type 0 where
+pub record CountsWithin (limit : ℕ) (report : Report) : Type 0 where
   pub squares : report.squares ≤ limit
   pub fours : report.fours ≤ report.squares
   pub base : report.base ≤ report.fours
@@ -95,7 +95,7 @@ HasPut next w k n many =
 -- of as many as are put to the rule on it
 pub record IsReport (limit : ℕ) (next : List ℕ → ℕ) (w : World) (n : ℕ) (report : Report)
     : Type 0 where
-  pub within : IsWithin limit report
+  pub within : CountsWithin limit report
   pub k : ℕ
   pub root : IsRoomLevel n w k
   pub held : (all : List Square) → HasWay all next w k n → AreReported all next w k n report

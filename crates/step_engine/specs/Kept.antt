@@ -2,7 +2,7 @@
 use Rattle.std.specs.Prelude.{◌≡◌, ℕ, min, List, [], Option, IfSome}
 use Rattle.worlds.specs.World.{World}
 use Rattle.square_table.specs.Squares.{Table}
-use Rattle.hash_engine.specs.Memo.{IsRight}
+use Rattle.hash_engine.specs.Memo.{IsRightMemo}
 use Rattle.hash_engine.specs.declared.memo.Memo.{Memo}
 use Rattle.step_engine.specs.declared.kept.Packed.{Packed}
 use Rattle.step_engine.specs.Evolved.{IsRoomSpent}
@@ -19,16 +19,16 @@ IsPackedIn table packed = IsSquareOf table packed.plane packed.square
 
 -- what an engine keeps: no more squares than it may hold, results of theirs that are all HashLife's
 -- under its rule, and a plane with its square
-pub record IsKept (next : List ℕ → ℕ) (most : ℕ) (table : Table) (memo : Memo)
+pub record IsKeptEngine (next : List ℕ → ℕ) (most : ℕ) (table : Table) (memo : Memo)
     (packed : Option Packed) : Type 0 where
   pub limit : table.limit ≡ min most 16777216
-  pub right : IsRight next table.rows memo
+  pub right : IsRightMemo next table.rows memo
   pub latest : IfSome packed (IsPackedIn table)
 
 -- what may be kept before a pass may be kept after it
 pub record StaysKept (next : List ℕ → ℕ) (t u : Table) (memo : Memo) : Type 0 where
   pub limit : u.limit ≡ t.limit
-  pub right : IsRight next u.rows memo
+  pub right : IsRightMemo next u.rows memo
 
 -- if the table had no square, the way to the world n generations later has as many as it may hold
 abbrev pub SpendsNew : (List ℕ → ℕ) → World → ℕ → Table → Type 0

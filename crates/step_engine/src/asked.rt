@@ -5,7 +5,7 @@ ghost use Rattle.worlds.specs.Step.{places_around};
 ghost use Rattle.worlds.specs.Range.{IsInside, AllBelow};
 ghost use Rattle.square_tree.specs.Cells.{blank, IsHeld};
 ghost use Rattle.step_engine.specs.Asked.{HasAsked, AsksMore, IsNoted};
-ghost use Rattle.step_engine.specs.Room.{HasRoom};
+ghost use Rattle.step_engine.specs.Room.{HasRoomAround};
 
 use crate::generation::Generation;
 use crate::spot::{OFFSETS, Spot};
@@ -89,7 +89,7 @@ pub(crate) fn ask_around<R: Next>(
 ) -> Result<(), AllocError>
     requires below { AllBelow (R.state_count rule.now) now.now }
     requires inside { IsInside 1 spot.x spot.y }
-    requires room { HasRoom asked.old.patch.level spot.x spot.y }
+    requires room { HasRoomAround asked.old.patch.level spot.x spot.y }
     ensures { OnOk result (AsksMore (R.meaning rule.now) now.now
         (places_around (spot.y, spot.x)) asked.old asked.new) }
 {

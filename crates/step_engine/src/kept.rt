@@ -4,7 +4,7 @@ ghost use Rattle.worlds.specs.Iterate.{iterate};
 ghost use Rattle.worlds.specs.Step.{step};
 ghost use Rattle.worlds.specs.Stop.{CountsStop};
 ghost use Rattle.square_table.specs.Squares.{Table};
-ghost use Rattle.hash_engine.specs.Memo.{IsRight};
+ghost use Rattle.hash_engine.specs.Memo.{IsRightMemo};
 ghost use Rattle.step_engine.specs.Evolved.{CanEvolve, IsRoomSpent};
 ghost use Rattle.step_engine.specs.Kept.{IsPackedIn, StaysKept, SpendsNew};
 ghost use Rattle.step_engine.specs.Padded.{IsSquareOf};
@@ -55,7 +55,7 @@ fn pass<'a, Q: Ask, S: Stop>(
     stop: &mut S,
 ) -> Result<Plane, EvolveFault>
     requires evolve { CanEvolve (Q.state_count rule.old) generations plane.now }
-    requires right { IsRight (Q.meaning rule.old) table.old.rows memo.old }
+    requires right { IsRightMemo (Q.meaning rule.old) table.old.rows memo.old }
     requires latest { IfSome latest.old (IsPackedIn table.old) }
     ensures plane { IfOk result (λ later.
         later ≡ iterate generations (step (Q.meaning rule.old)) plane.now) }
@@ -100,13 +100,13 @@ pub struct Engine<'a, R: Next> {
 }
 
 impl<'a, R: Next> Model for Engine<'a, R> {
-    ghost use Rattle.step_engine.specs.Kept.{RuleEngine, IsKept};
+    ghost use Rattle.step_engine.specs.Kept.{RuleEngine, IsKeptEngine};
 
     ghost Value = { RuleEngine R };
 
     ghost view = { λ e. record { rule = e.rule.now; limit = e.limit } };
 
-    ghost invariant = { λ e. IsKept (R.meaning e.rule.now) e.limit e.table e.memo e.latest };
+    ghost invariant = { λ e. IsKeptEngine (R.meaning e.rule.now) e.limit e.table e.memo e.latest };
 }
 
 impl<'a, R: Next> Engine<'a, R> {

@@ -4,7 +4,7 @@ ghost use Rattle.worlds.specs.World.{cell, blank as blank_world};
 ghost use Rattle.worlds.specs.Lay.{lay};
 ghost use Rattle.worlds.specs.Range.{IsInside};
 ghost use Rattle.square_tree.specs.Cells.{blank, IsHeld, state_at};
-ghost use Rattle.step_engine.specs.Room.{HasRoom, CellHasRoom};
+ghost use Rattle.step_engine.specs.Room.{HasRoomAround, CellHasRoom};
 
 use plane_core::CellSet;
 use square_tree::Patch;
@@ -16,7 +16,7 @@ const GREATEST_LEVEL: u8 = 62;
 // Whether a cell and those around it lie in the patch's square.
 fn has_room(patch: &Patch<Global>, cell: CellSet) -> bool
     requires { IsInside 1 cell.x cell.y }
-    ensures { IsTrue result ↔ HasRoom patch.now.level cell.x cell.y }
+    ensures { IsTrue result ↔ HasRoomAround patch.now.level cell.x cell.y }
 {
     patch.holds(cell.x - 1, cell.y - 1) && patch.holds(cell.x + 1, cell.y + 1)
 }

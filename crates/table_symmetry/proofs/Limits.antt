@@ -7,7 +7,7 @@ use Rattle.std.proofs.lemmas.Bool.Decides.{nat_tests}
 use Rattle.rule_file.specs.declared.fault.RuleFault.TheVariants.{NotQuiescent}
 use Rattle.table_symmetry.specs.declared.expansion.Expanded.{Expanded}
 use Rattle.table_symmetry.specs.Expanded.{expanded, first_match, transition_limit}
-use Rattle.table_symmetry.specs.Kept.{IsKept}
+use Rattle.table_symmetry.specs.Kept.{IsKeptTable}
 use Rattle.table_symmetry.specs.NextState.{gives_states, inputs_of, is_quiescent, next, places_of}
 use Rattle.table_symmetry.specs.Rows.{AreExpanded}
 use Rattle.table_lines.specs.Read.{IsRead}
@@ -23,7 +23,7 @@ next_of_zeros table is = ap (λ o. unwrap_or o 0) is ∙ next-expanded table nin
 
 -- a table that was read, of few expanded transitions, and that is quiescent, is one that is kept
 pub is_kept : {found : Option ℕ} (table : Table) → IsRead table → length (expanded table) ≤ transition_limit → found ≡ first_match (expanded table) (inputs_of table.neighborhood nine_zeros)
-    → unwrap_or found 0 ≡ 0 → IsKept table
+    → unwrap_or found 0 ≡ 0 → IsKeptTable table
 is_kept table read few is quiet =
     let some : 0 < table.states = omega (arith, read.at_least) in
     let still : is_quiescent table ≡ true = eq-eqb (next table nine_zeros) 0 (sym (next_of_zeros table is) ∙ quiet) in
@@ -38,7 +38,7 @@ within_limits-restless table small is moves =
     rw (few, restless)
 
 -- the expanded transitions of a table that is kept
-pub are_expanded : (table : Table) (rows : List Expanded) → IsKept table → rows ≡ expanded table → AreExpanded table rows
+pub are_expanded : (table : Table) (rows : List Expanded) → IsKeptTable table → rows ≡ expanded table → AreExpanded table rows
 are_expanded table rows kept listed =
     subst (AreExpanded table) (sym listed) (record {
       sound = kept.sound;

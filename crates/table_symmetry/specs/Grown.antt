@@ -19,10 +19,10 @@ ExpandTo symmetry transitions rows =
     (rows ≡ flat_map (expanded_of symmetry) transitions) × (length rows ≤ transition_limit)
 
 -- a list grew by some more
-abbrev pub Grows : {U : Type 0} → Result U RuleFault → List Expanded → List Expanded → List Expanded
+abbrev pub GrowsRows : {U : Type 0} → Result U RuleFault → List Expanded → List Expanded → List Expanded
     → Type 0
-Grows (Ok u) old new more = (new ≡ old ++ more) × (length new ≤ transition_limit)
-Grows (Err fault) old new more = IsTooLong fault (length old + length more)
+GrowsRows (Ok u) old new more = (new ≡ old ++ more) × (length new ≤ transition_limit)
+GrowsRows (Err fault) old new more = IsTooLong fault (length old + length more)
 
 -- an expanded transition of these sets for the cell and its neighbours
 abbrev pub row_of : List (List ℕ) → ℕ → List (List ℕ) → Expanded

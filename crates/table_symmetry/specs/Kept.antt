@@ -8,7 +8,7 @@ use Rattle.table_symmetry.specs.Table.{Table}
 use Rattle.table_lines.specs.Read.{IsRead}
 
 -- a table that a file may have
-pub record IsKept (table : Table) : Type 0 where
+pub record IsKeptTable (table : Table) : Type 0 where
   pub read : IsRead table
   pub sound : is_sound table ≡ true
   pub few : length (expanded table) ≤ transition_limit

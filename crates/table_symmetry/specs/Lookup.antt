@@ -76,8 +76,8 @@ pub record IsLookupOf (rows : List Expanded) (n : ℕ) (neighborhood : Neighborh
 
 -- what a look-up finds for the states at and around a cell: what the first row that matches gives,
 -- of whatever rows it is the look-up
-abbrev pub Finds : Lookup → List ℕ → Option ℕ → Type 0
-Finds lookup around found =
+abbrev pub FindsFirstRow : Lookup → List ℕ → Option ℕ → Type 0
+FindsFirstRow lookup around found =
     (rows : List Expanded) (n : ℕ) (neighborhood : Neighborhood)
     → IsLookupOf rows n neighborhood lookup → AreNineBelow n around
     → found ≡ first_match rows (inputs_of neighborhood around)

@@ -6,7 +6,7 @@
 ghost use Rattle.std.specs.Prelude.{◌≡◌, ◌≤◌, ◌++◌, ◌∷◌, length, map, IfOk, OnOk, MatchResult};
 ghost use Rattle.std.specs.List.{flat_map};
 ghost use Rattle.table_symmetry.specs.Expanded.{expanded_of, expanded_one, transition_limit};
-ghost use Rattle.table_symmetry.specs.Grown.{ExpandTo, Grows, IsTooLong, lists_in, row_of};
+ghost use Rattle.table_symmetry.specs.Grown.{ExpandTo, GrowsRows, IsTooLong, lists_in, row_of};
 ghost use Rattle.table_symmetry.specs.NextState as meaning;
 
 use crate::arrangement::{arrangements, joined};
@@ -56,7 +56,7 @@ fn push_assigned(
     transition: &Transition,
 ) -> Result<(), RuleFault>
     requires { length rows.old.items ≤ transition_limit }
-    ensures { Grows result rows.old.items rows.new.items
+    ensures { GrowsRows result rows.old.items rows.new.items
         (flat_map (expanded_one symmetry) (meaning.assigned bound.now transition.now)) }
 {
     match bound.split_first() {
@@ -80,7 +80,7 @@ fn push_one(
     transition: &Transition,
 ) -> Result<(), RuleFault>
     requires { length rows.old.items ≤ transition_limit }
-    ensures { Grows result rows.old.items rows.new.items (expanded_one symmetry transition.now) }
+    ensures { GrowsRows result rows.old.items rows.new.items (expanded_one symmetry transition.now) }
 {
     let sets = sets_of(alloc, transition.inputs.as_slice())?;
     let (centre, circle) = sets.split_at(sets.len().min(1));

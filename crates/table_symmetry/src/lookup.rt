@@ -4,7 +4,7 @@ ghost use Rattle.std.specs.Int.{bit_at};
 ghost use Rattle.rule_file.specs.States.{most_states};
 ghost use Rattle.table_symmetry.specs.NextState.{inputs_of, places_of};
 ghost use Rattle.table_symmetry.specs.States.{word_of};
-ghost use Rattle.table_symmetry.specs.Lookup.{Finds, HasBits, HasBitsOf, HasColumns, HaveBitsOf, HaveInputs, IsLookupOf, TellRows, set_at, word_of_each};
+ghost use Rattle.table_symmetry.specs.Lookup.{FindsFirstRow, HasBits, HasBitsOf, HasColumns, HaveBitsOf, HaveInputs, IsLookupOf, TellRows, set_at, word_of_each};
 
 use crate::expansion::Expanded;
 use basics::Listing;
@@ -60,7 +60,7 @@ impl Lookup {
 
     /// The result of the first row that matches the states at and around a cell.
     pub fn find(&self, around: &Around) -> Option<u8>
-        ensures { Finds self.now around.now.0 result }
+        ensures { FindsFirstRow self.now around.now.0 result }
     {
         let picked = picked(self.neighborhood, around);
         let inputs = &picked[..input_count(self.neighborhood)];

@@ -1,7 +1,7 @@
 //! Tables that files may have.
 ghost use Rattle.std.specs.Prelude.{◌≡◌, ◌↔◌, ◌≤◌, IfOk, IsTrue};
 ghost use Rattle.rule_file.specs.States.{least_states, most_states};
-ghost use Rattle.table_symmetry.specs.Kept.{IsKept};
+ghost use Rattle.table_symmetry.specs.Kept.{IsKeptTable};
 ghost use Rattle.table_symmetry.specs.Rows.{AreExpanded};
 ghost use Rattle.table_symmetry.specs.Rule.{still_table};
 
@@ -21,18 +21,18 @@ pub struct SoundTable {
 
 impl Model for SoundTable {
     ghost use Rattle.table_symmetry.specs.Table.{Table};
-    ghost use Rattle.table_symmetry.specs.Kept.{IsKept};
+    ghost use Rattle.table_symmetry.specs.Kept.{IsKeptTable};
 
     ghost Value = { Table };
 
     ghost view = { λ table. table.lines };
 
-    ghost invariant = { λ table. IsKept table.lines };
+    ghost invariant = { λ table. IsKeptTable table.lines };
 }
 
 impl SoundTable {
     pub(crate) fn new(alloc: Global, lines: TableLines) -> SoundTable
-        requires { IsKept lines }
+        requires { IsKeptTable lines }
         ensures { result ≡ lines }
     {
         SoundTable { lines, alloc }

@@ -7,5 +7,7 @@
 mod limits;
 mod rows;
 
-pub use limits::{all_can_be_drawn, all_can_be_laid, are_below, can_be_drawn, can_be_laid, is_below};
+pub use limits::{
+    all_can_be_drawn, all_can_be_laid, are_below, can_be_drawn, can_be_laid, is_below,
+};
 pub use rows::{Row, laid, plane_of, rows_of, sets_of};

@@ -13,7 +13,7 @@ use Rattle.tree_translation.specs.declared.listed.Listed.{Listed}
 use Rattle.tree_translation.specs.declared.listed.Node.{Node}
 use Rattle.tree_translation.specs.declared.numbering.Found.{Found}
 use Rattle.tree_translation.specs.Layers.{Fit, IsGrownBy, IsLayer}
-use Rattle.tree_translation.specs.Numbering.{AreBegun, AreEntries, AreFit, AreNodes, AreTailsAt, Grows, IsBegun, IsEntry, IsFull, IsLeft, IsNode, IsNumberOf, IsStored, NeedsTooMany, entries_in, input_at, same_listed, same_node}
+use Rattle.tree_translation.specs.Numbering.{AreBegun, AreEntries, AreFit, AreNodes, AreTailsAt, GrowsNodes, IsBegun, IsEntry, IsFull, IsLeft, IsNode, IsNumberOf, IsStored, NeedsTooMany, entries_in, input_at, same_listed, same_node}
 use Rattle.tree_translation.specs.Starts.{NeedStarts, Start, StartsApart, start_at}
 use Rattle.tree_translation.specs.Translation.{Does, LeftOf, node_limit, outcome}
 use Rattle.decision_tree.specs.Tree.{follow, node_at}
@@ -211,7 +211,7 @@ number-made states layers nodes node input list number fit tails same are stored
         }) stored.entries
 
 module _ (states : ℕ) (layers : List Layer) (input : ℕ) (list left : List ℕ) (s : ℕ) (old mid : Found) (deep : input + 1 < length layers) (under : s < states)
-    (is : (d : Layer) → LeftOf (slice_index_or layers input d) s list left) (first : Grows states layers input (input + 1) list old mid) where
+    (is : (d : Layer) → LeftOf (slice_index_or layers input d) s list left) (first : GrowsNodes states layers input (input + 1) list old mid) where
   outcome-behind : (ls : List Layer) → drop input layers ≡ ls → (rest : List ℕ) → input + 1 + length rest ≡ length layers
       → outcome (drop input layers) list (s ∷ rest) ≡ outcome (drop (input + 1) layers) left rest
   outcome-behind (here ∷ next ∷ deeper) from rest long =
@@ -233,7 +233,7 @@ module _ (states : ℕ) (layers : List Layer) (input : ℕ) (list left : List �
   }
 
   -- what came for the lists behind earlier states, and then for the one behind this state
-  pub Grows-behind : (new : Found) → Grows states layers (input + 1) (input + 1) left mid new → Grows states layers input (input + 1) list old new
+  pub Grows-behind : (new : Found) → GrowsNodes states layers (input + 1) (input + 1) left mid new → GrowsNodes states layers input (input + 1) list old new
   Grows-behind new second = record {
     known = second.known;
     more = first.more ++ second.more;
@@ -255,11 +255,11 @@ is-later nodes input number later inside at =
 -- what comes with the node that a list gets
 pub record IsMade (states : ℕ) (layers : List Layer) (input : ℕ) (list : List ℕ) (old new : Found) (number : ℕ) : Type 0 where
   pub numbered : IsNumberOf states layers new.nodes.keys input list number
-  pub grows : Grows states layers input input list old new
+  pub grows : GrowsNodes states layers input input list old new
   pub last : All (λ (n : Node). input < n.input) old.nodes.keys → number + 1 ≡ length new.nodes.keys
 
 module _ (states : ℕ) (layers : List Layer) (room input : ℕ) (list : List ℕ) (old mid : Found) (node : Node) (fit : AreFit states layers room)
-    (tails : AreTailsAt layers input list) (grown : Grows states layers input (input + 1) list old mid)
+    (tails : AreTailsAt layers input list) (grown : GrowsNodes states layers input (input + 1) list old mid)
     (are : AreEntries states layers mid.nodes.keys input list node.entries) (same : node.input ≡ input) where
   abbrev before : List Node
   before = mid.nodes.keys

@@ -8,7 +8,7 @@ use Rattle.std.proofs.lemmas.Nat.Bits.{bit_at-zero}
 use Rattle.tree_translation.specs.declared.layers.Layer.{Layer}
 use Rattle.tree_translation.specs.declared.layers.Tail.{Tail}
 use Rattle.tree_translation.specs.Layers.{allows, lets}
-use Rattle.tree_translation.specs.Near.{AreAlike, AreNear}
+use Rattle.tree_translation.specs.Near.{TreatsAlike, AreNear}
 use Rattle.tree_translation.specs.Translation.{LeftOf, asked_behind, first_some}
 use Rattle.tree_translation.proofs.TailsLeft.{first_some-push}
 
@@ -33,7 +33,7 @@ lets-none layer number block state bits same =
 
 -- a tail with alike bits treats their states alike
 pub alike-bits : (layer : Layer) (number state count word : ℕ) → ((bit : ℕ) → bit < 64 → (bit_at word bit == 1) ≡ lets layer number (64 * (state / 64) + bit)) → state % 64 + count ≤ 64
-    → ((i : ℕ) → i < count → bit_at word (state % 64 + i) ≡ bit_at word (state % 64)) → AreAlike layer state count number
+    → ((i : ℕ) → i < count → bit_at word (state % 64 + i) ≡ bit_at word (state % 64)) → TreatsAlike layer state count number
 alike-bits layer number state count word bits room alike s low high =
     let place : 64 * (state / 64) + state % 64 ≡ state = omega arith in
     let there : 64 * (state / 64) + (state % 64 + (s - state)) ≡ s = omega (arith, low) in
@@ -59,7 +59,7 @@ first_some-alike layer s state f (n ∷ list) alike =
     grind (arith, alike 0 0 (omega arith), first_some-alike layer s state f list (All-tail (λ n. lets layer n s ≡ lets layer n state) n list alike))
 
 -- what the tails near a state leave behind it is left of the whole list, behind each state that they treat alike
-pub LeftOf-alike : (layer : Layer) (state count s : ℕ) (list near left : List ℕ) → AreNear layer (state / 64) list near → All (AreAlike layer state count) near → state % 64 + count ≤ 64 → LeftOf layer state near left
+pub LeftOf-alike : (layer : Layer) (state count s : ℕ) (list near left : List ℕ) → AreNear layer (state / 64) list near → All (TreatsAlike layer state count) near → state % 64 + count ≤ 64 → LeftOf layer state near left
     → state ≤ s → s < state + count → LeftOf layer s list left
 LeftOf-alike layer state count s list near left are alike room is low high f =
     let block : s / 64 ≡ state / 64 = omega (arith, low, high, room) in

@@ -11,6 +11,6 @@ pub record AreNear (layer : Layer) (block : ℕ) (list near : List ℕ) : Type 0
       → first_some (asked_behind layer state f) near ≡ first_some (asked_behind layer state f) list
 
 -- a tail lets so many states from this one on be the input, or none of them
-abbrev pub AreAlike : Layer → ℕ → ℕ → ℕ → Type 0
-AreAlike layer state count number =
+abbrev pub TreatsAlike : Layer → ℕ → ℕ → ℕ → Type 0
+TreatsAlike layer state count number =
     (s : ℕ) → state ≤ s → s < state + count → lets layer number s ≡ lets layer number state

@@ -95,7 +95,7 @@ pub record IsLeft (states : ℕ) (layers : List Layer) (give : List ℕ → ℕ)
 
 -- more nodes came, each for an input from `from` on, and each for a beginning where the tails that
 -- were looked at are left behind one
-pub record Grows (states : ℕ) (layers : List Layer) (input from : ℕ) (list : List ℕ)
+pub record GrowsNodes (states : ℕ) (layers : List Layer) (input from : ℕ) (list : List ℕ)
     (old new : Found)
     : Type 0 where
   pub known : Knows states layers new

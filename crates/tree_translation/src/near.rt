@@ -6,7 +6,7 @@
 ghost use Rattle.std.specs.Prelude.{◌≡◌, ◌≢◌, ◌≤◌, ◌<◌, ◌+◌, ◌/◌, ◌%◌, ℕ, length, false, All, IfOk};
 ghost use Rattle.std.specs.Int.{bit_at};
 ghost use Rattle.tree_translation.specs.Layers.{IsLayer, lets};
-ghost use Rattle.tree_translation.specs.Near.{AreAlike, AreNear};
+ghost use Rattle.tree_translation.specs.Near.{TreatsAlike, AreNear};
 
 use crate::layers::Layer;
 use std::alloc::{AllocError, Global};
@@ -58,7 +58,7 @@ pub fn states_alike(layer: &Layer, state: u8, list: &[u32]) -> u16
     requires inside { All (λ n. n < length layer.now.tails.items) list.now }
     ensures some { 1 ≤ result }
     ensures within { state % 64 + result ≤ 64 }
-    ensures alike { All (AreAlike layer.now state result) list.now }
+    ensures alike { All (TreatsAlike layer.now state result) list.now }
 {
     let mut count = 64 - u32::from(state % 64);
     for number in list {

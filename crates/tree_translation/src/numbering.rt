@@ -9,7 +9,7 @@ ghost use Rattle.std.specs.Prelude.{◌-◌, replicate, ◌≡◌, ◌≤◌, �
 ghost use Rattle.rule_file.specs.States.{most_states};
 ghost use Rattle.tree_translation.specs.declared.tree_fault.TreeFault.TheVariants.{TreeTooLarge};
 ghost use Rattle.tree_translation.specs.Layers.{IsLayer, lets, rest_at};
-ghost use Rattle.tree_translation.specs.Numbering.{AreEntries, CanNumber, Grows, IsNumberOf, NeedsTooMany, entries_in};
+ghost use Rattle.tree_translation.specs.Numbering.{AreEntries, CanNumber, GrowsNodes, IsNumberOf, NeedsTooMany, entries_in};
 ghost use Rattle.tree_translation.specs.TailsFound.{AreMarked, IsFound};
 ghost use Rattle.tree_translation.specs.Translation.{AreLeaves, LeftOf, first_some};
 
@@ -52,7 +52,7 @@ pub fn number_of(
     requires { CanNumber states layers.now input list.now marks.old found.old }
     ensures number { IfOk result
         (λ n. IsNumberOf states layers.now found.new.nodes.keys input list.now n) }
-    ensures grows { OnOk result (Grows states layers.now input input list.now found.old found.new) }
+    ensures grows { OnOk result (GrowsNodes states layers.now input input list.now found.old found.new) }
     ensures last { IfOk result (λ n. All (λ node. input < node.input) found.old.nodes.keys →
         n + 1 ≡ length found.new.nodes.keys) }
     ensures clear { OnOk result (All (λ b. b ≡ false) marks.new) }
@@ -91,7 +91,7 @@ fn entries_of(
     ensures entries { IfOk result
         (λ entries.
         AreEntries states layers.now found.new.nodes.keys input list.now entries.items) }
-    ensures grows { OnOk result (Grows states layers.now input
+    ensures grows { OnOk result (GrowsNodes states layers.now input
         (input + 1) list.now found.old found.new) }
     ensures clear { OnOk result (All (λ b. b ≡ false) marks.new) }
     ensures large { IfErr result (λ fault. fault ≡ TreeTooLarge →
@@ -145,7 +145,7 @@ fn number_again(
         IsNumberOf states layers.now found.old.nodes.keys input l.now.list.items l.now.number) }
     ensures number { IfOk result
         (λ n. IsNumberOf states layers.now found.new.nodes.keys input list.now n) }
-    ensures grows { OnOk result (Grows states layers.now input input list.now found.old found.new) }
+    ensures grows { OnOk result (GrowsNodes states layers.now input input list.now found.old found.new) }
     ensures clear { OnOk result (All (λ b. b ≡ false) marks.new) }
     ensures large { IfErr result (λ fault. fault ≡ TreeTooLarge →
         NeedsTooMany states layers.now input list.now found.old) }

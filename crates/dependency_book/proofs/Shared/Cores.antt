@@ -17,8 +17,8 @@ use Rattle.dependency_book.specs.declared.row.RowState.{RowState}
 use Rattle.dependency_book.specs.declared.row.RowState.TheVariants.{Empty, Expected, Known}
 use Rattle.dependency_book.specs.BookState.{BookState, arrival_known, arrival_row, expected, row_of, text_row}
 use Rattle.dependency_book.specs.Core.{core_of, plain_row}
-use Rattle.dependency_book.specs.Puts.{Puts}
-use Rattle.dependency_book.specs.Right.{IsRight}
+use Rattle.dependency_book.specs.Puts.{PutsRow}
+use Rattle.dependency_book.specs.Right.{IsRightBook}
 use Rattle.dependency_book.specs.RowState.{job_of, known, state_map}
 use Rattle.dependency_book.specs.Said.{said_at}
 use Rattle.schedule.specs.declared.document.Bookmark.{Bookmark}
@@ -41,7 +41,7 @@ pub plain_if : (b : Bool) (x y : RowState Value)
 plain_if b x y = grind arith
 
 -- after something was put in a row
-pub put_core : (d e : BookState) (need : Need) (s : RowState Value) → Puts need s d e
+pub put_core : (d e : BookState) (need : Need) (s : RowState Value) → PutsRow need s d e
     → core_of e ≡ put need (plain_row s) (core_of d)
 put_core d e need s puts =
     same_core e.plan d.plan e.entries d.entries (λ other. plain_row (row_of e other))
@@ -56,12 +56,12 @@ arrives_same d = fun_ext (λ m. of_state (arrival_row d m))
     of_state : (s : RowState World) → known s ≡ world_in (plain_row (state_map pattern s))
     of_state s = grind arith
 
-pub known_arrives : (d : BookState) → IsRight d → Arrives (arrival_known d) d.plan
+pub known_arrives : (d : BookState) → IsRightBook d → Arrives (arrival_known d) d.plan
 known_arrives d right =
     subst (λ f. Arrives f d.plan) (sym (arrives_same d)) (right_core.known_arrives (core_of d) right.core)
 
 -- what is known is what is wanted
-pub known_wanted : (d : BookState) (need : Need) (v : Value) → IsRight d → row_of d need ≡ Known v
+pub known_wanted : (d : BookState) (need : Need) (v : Value) → IsRightBook d → row_of d need ≡ Known v
     → wanted d.plan need ≡ Some v
 known_wanted d need v right is =
     subst (Stands d.entries d.plan need) (ap plain_row is) (right.core.stands need)
@@ -80,14 +80,14 @@ pub awaited : (d : BookState) (need : Need) (job : Job) → expected d need ≡ 
 awaited d need job out = ap plain_row (expected_state d need job out)
 
 -- of one number there is one
-pub once : (d : BookState) (a b : Need) (i j : Job) → IsRight d → expected d a ≡ Some i
+pub once : (d : BookState) (a b : Need) (i j : Job) → IsRightBook d → expected d a ≡ Some i
     → expected d b ≡ Some j
     → i.number ≡ j.number → a ≡ b
 once d a b i j right here there same =
     right.core.once a b i.number (awaited d a i here) (awaited d b j there ∙ ap awaits (sym same))
 
 -- its entry gives what is wanted
-pub expected_wants : (d : BookState) (need : Need) (job : Job) → IsRight d → expected d need ≡ Some job
+pub expected_wants : (d : BookState) (need : Need) (job : Job) → IsRightBook d → expected d need ≡ Some job
     → wanted d.plan need ≡ Some (value (said_at job.place))
 expected_wants d need job right out =
     let h = subst (Stands d.entries d.plan need) (awaited d need job out) (right.core.stands need) in
@@ -96,7 +96,7 @@ expected_wants d need job right out =
     h.gives ∙ ap (λ e. Some (value e)) entry
 
 -- a text that is known is the one that starting over gives
-pub text_scratch : (d : BookState) (id : ℕ) (b : Bookmark) → IsRight d
+pub text_scratch : (d : BookState) (id : ℕ) (b : Bookmark) → IsRightBook d
     → bookmark_in d.plan.bookmarks id ≡ Some b
     → IfSome (known (text_row d id)) (λ bytes. bytes ≡ scratch d.plan b)
 text_scratch d id b right there = of_state (text_row d id) (λ v is. known_wanted d (View id) v right is)

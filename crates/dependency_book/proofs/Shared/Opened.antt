@@ -6,8 +6,8 @@ use Rattle.desk_events.specs.declared.mark.Mark.{Mark}
 use Rattle.desk_events.specs.declared.need.Need.{Need}
 use Rattle.desk_events.specs.declared.need.Need.TheVariants.{Step, View}
 use Rattle.dependency_book.specs.BookState.{opened, row_of, expected}
-use Rattle.dependency_book.specs.Cursor.{IsKept, start}
-use Rattle.dependency_book.specs.Held.{IsHeld}
+use Rattle.dependency_book.specs.Cursor.{IsKeptBook, start}
+use Rattle.dependency_book.specs.Held.{IsHeldBook}
 use Rattle.desk_events.specs.Marks.{is_mark, is_start}
 use Rattle.desk_events.specs.Core as core
 use Rattle.desk_events.specs.Right.{IsRight as IsRightCore}
@@ -34,7 +34,7 @@ none_out : (table : Entries) (revision : ℕ) (need : Need) → expected (opened
 none_out table revision (Step branch mark) = grind arith
 none_out table revision (View id) = refl
 
-pub opened_held : (table : Entries) (revision : ℕ) → IsHeld (opened table revision) []
+pub opened_held : (table : Entries) (revision : ℕ) → IsHeldBook (opened table revision) []
 opened_held table revision = record {
   places = refl;
   right = record {
@@ -53,7 +53,7 @@ opened_held table revision = record {
   ids_rise = tt;
 }
 
-pub opened_kept : (table : Entries) (revision : ℕ) → IsKept (opened table revision) [] start [] []
+pub opened_kept : (table : Entries) (revision : ℕ) → IsKeptBook (opened table revision) [] start [] []
 opened_kept table revision = record {
   held = opened_held table revision;
   passed = passed_none (opened table revision) [];

@@ -6,33 +6,33 @@ use Rattle.desk_events.specs.declared.mark.Mark.{Mark}
 use Rattle.desk_events.specs.declared.need.Need.{Need}
 use Rattle.dependency_book.specs.declared.row.RowState.{RowState}
 use Rattle.dependency_book.specs.declared.row.RowState.TheVariants.{Empty, Known}
-use Rattle.dependency_book.specs.BookState.{BookState, row_of, wanting_of}
+use Rattle.dependency_book.specs.BookState.{BookState, row_of, empty_rows_of}
 use Rattle.dependency_book.specs.Jobs.{SameBook}
 use Rattle.desk_events.specs.Needs.{is_need, step_to}
 use Rattle.dependency_book.specs.Puts.{missing}
-use Rattle.dependency_book.specs.Recalled.{Entered, Enters, Recalls}
+use Rattle.dependency_book.specs.Recalled.{Entered, Enters, EntersSteps}
 use Rattle.desk_events.proofs.Shared.Needs.{need_is}
 use Rattle.desk_events.proofs.Shared.Tests.{either_way}
 
-pub recalls_none : (d : BookState) → Recalls d d
+pub recalls_none : (d : BookState) → EntersSteps d d
 recalls_none d = ([], refl)
 
-pub recalls_one : (mark : Mark) (s : Stepping) (d e : BookState) → Enters mark s d e → Recalls d e
+pub recalls_one : (mark : Mark) (s : Stepping) (d e : BookState) → Enters mark s d e → EntersSteps d e
 recalls_one mark s d e h = ((mark, s) ∷ [], (e, h, refl))
 
 -- what each entering carries on, all of them do
 pub recalls_all : (P : BookState → BookState → Type 0) → ((d : BookState) → P d d)
     → ((mark : Mark) (s : Stepping) (d e f : BookState) → Enters mark s d e → P e f → P d f)
-    → (d e : BookState) → Recalls d e → P d e
+    → (d e : BookState) → EntersSteps d e → P d e
 recalls_all P none more d e h = entered h.0 d h.1
   where
     entered : (xs : List (Mark × Stepping)) (d : BookState) → Entered xs d e → P d e
     entered [] d h = subst (P d) (sym h) (none d)
     entered (x ∷ xs) d h = more x.0 x.1 d h.0 e h.1 (entered xs h.0 h.2)
 
-pub recalls_then : (d e f : BookState) → Recalls d e → Recalls e f → Recalls d f
+pub recalls_then : (d e f : BookState) → EntersSteps d e → EntersSteps e f → EntersSteps d f
 recalls_then d e f h =
-    recalls_all (λ a b. Recalls b f → Recalls a f) (λ a k. k)
+    recalls_all (λ a b. EntersSteps b f → EntersSteps a f) (λ a k. k)
     (λ mark s a b c first rest k. let r = rest k in ((mark, s) ∷ r.0, (b, first, r.1))) d e h
 
 -- the book is the same
@@ -52,7 +52,7 @@ book_then d e f h k = record {
   refused = k.refused ∙ h.refused;
 }
 
-pub recalls_book : (d e : BookState) → Recalls d e → SameBook d e
+pub recalls_book : (d e : BookState) → EntersSteps d e → SameBook d e
 recalls_book = recalls_all SameBook same_book (λ mark s d e f h k. book_then d e f h.puts.book k)
 
 -- no row loses what stands in it
@@ -76,7 +76,7 @@ enters_row mark s d e need h =
     ))
     (λ miss. inl (h.puts.rows need ∙ rw miss refl))
 
-pub recalls_row : (d e : BookState) (need : Need) → Recalls d e → Stays (row_of d need) (row_of e need)
+pub recalls_row : (d e : BookState) (need : Need) → EntersSteps d e → Stays (row_of d need) (row_of e need)
 recalls_row d e need =
     recalls_all (λ a b. Stays (row_of a need) (row_of b need)) (λ a. inl refl)
     (λ mark s a b c h k.
@@ -84,9 +84,9 @@ recalls_row d e need =
 
 -- no more rows are empty
 
-pub recalls_wanting : (d e : BookState) → Recalls d e → wanting_of e ≤ wanting_of d
+pub recalls_wanting : (d e : BookState) → EntersSteps d e → empty_rows_of e ≤ empty_rows_of d
 recalls_wanting =
-    recalls_all (λ d e. wanting_of e ≤ wanting_of d) (λ d. omega arith)
+    recalls_all (λ d e. empty_rows_of e ≤ empty_rows_of d) (λ d. omega arith)
     (λ mark s d e f h k.
     let was : missing (row_of d (step_to mark)) ≡ 1 = ap missing h.empty in
     let count = h.puts.wanting in

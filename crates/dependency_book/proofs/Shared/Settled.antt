@@ -2,14 +2,14 @@
 use Rattle.std.proofs.Common.{◌≡◌, ◌+◌, ◌*◌, ◌≤◌, length, ap, subst, sym, ◌∙◌, refl, arith}
 use Rattle.std.proofs.lemmas.List.{length-map}
 use Rattle.schedule.specs.Repeats.{repeat_marks}
-use Rattle.dependency_book.specs.BookState.{BookState, NothingOut, pending_of, wanting_of}
+use Rattle.dependency_book.specs.BookState.{BookState, NothingOut, pending_of, empty_rows_of}
 use Rattle.dependency_book.specs.Held.{places_of}
-use Rattle.dependency_book.specs.Right.{IsRight}
+use Rattle.dependency_book.specs.Right.{IsRightBook}
 use Rattle.dependency_book.specs.Rows.{ArrivalRow, TextRow}
 use Rattle.dependency_book.proofs.Outs.{held_by}
 use Rattle.dependency_book.proofs.Needed.{none_wanting}
 
-pub few_rows : (d : BookState) → IsRight d → length d.arrivals + length d.texts ≤ 20608
+pub few_rows : (d : BookState) → IsRightBook d → length d.arrivals + length d.texts ≤ 20608
 few_rows d right =
     let acts = right.core.sound.few_interventions in
     let stand = right.core.sound.few_bookmarks in
@@ -27,5 +27,5 @@ few_rows d right =
     omega (arith, acts, stand, fork, repeated, marks, texts)
 
 -- where no job is out and something stands in every row
-pub none_pending : (d : BookState) → IsRight d → NothingOut d → wanting_of d ≡ 0 → pending_of d ≡ 0
+pub none_pending : (d : BookState) → IsRightBook d → NothingOut d → empty_rows_of d ≡ 0 → pending_of d ≡ 0
 none_pending d right = none_wanting (held_by d (places_of d.arrivals d.plan.bookmarks) refl right)

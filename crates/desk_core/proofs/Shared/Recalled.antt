@@ -6,11 +6,11 @@ use Rattle.dependency_book.specs.declared.row.RowState.TheVariants.{Known}
 use Rattle.desk_events.specs.declared.need.Need.{Need}
 use Rattle.dependency_book.specs.RowState.{job_of}
 use Rattle.dependency_book.specs.BookState.{BookState, row_of, expected}
-use Rattle.dependency_book.specs.Recalled.{Recalls}
+use Rattle.dependency_book.specs.Recalled.{EntersSteps}
 use Rattle.dependency_book.proofs.Shared.Recalling.{Stays, recalls_row}
 
 -- a job that is out then was out before
-pub recalls_out : (d e : BookState) (need : Need) (out : Job) → Recalls d e → expected e need ≡ Some out
+pub recalls_out : (d e : BookState) (need : Need) (out : Job) → EntersSteps d e → expected e need ≡ Some out
     → expected d need ≡ Some out
 recalls_out d e need out h is = by_row (recalls_row d e need h)
   where

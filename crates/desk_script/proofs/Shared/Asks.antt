@@ -2,7 +2,7 @@
 use Rattle.std.proofs.Common.{◌≡◌, ℕ, ◌+◌, List, [], ◌∷◌, ◌++◌, length, Bool, true, false, refl, append_assoc, append-nil, arith, None, Some}
 use Rattle.text_lines.specs.Lines.{End, Line}
 use Rattle.script_lines.specs.ScriptLine.{NoneEnds, raw_bytes, is_end, is_passed_over}
-use Rattle.script_lines.specs.Script.{Follows}
+use Rattle.script_lines.specs.Script.{MayFollow}
 use Rattle.desk_script.specs.Command.{command_of, format_of}
 use Rattle.desk_script.specs.Asks.{Take, asks, asked_by, Between, InText, without_end}
 use Rattle.desk_script.specs.declared.format.Format.{Format}
@@ -35,5 +35,5 @@ pub asks-text_command : (stop : End) (n : ℕ) (f : Format) (line : Line) (rest 
 asks-text_command stop n f line rest passed text = grind (arith)
 
 -- anything may follow a line that isn't the last
-pub follows-any : (last : Bool) (stop : End) (more : List ℕ) → last ≡ false → Follows last stop more
+pub follows-any : (last : Bool) (stop : End) (more : List ℕ) → last ≡ false → MayFollow last stop more
 follows-any last stop more e = grind (arith)

@@ -2,7 +2,7 @@
 ghost use Rattle.std.specs.Prelude.{IsTrue};
 ghost use Rattle.worlds.specs.Range.{AllBelow};
 ghost use Rattle.step_engine.specs.Evolved.{CanEvolve};
-ghost use Rattle.bookmarks.specs.Within.{IsWithin};
+ghost use Rattle.bookmarks.specs.Within.{KeepsViewLimits};
 ghost use Rattle.revision_jobs.specs.Entries.{IsOf};
 
 use basics::Listing;
@@ -46,7 +46,7 @@ fn can_evolve(plane: &Plane, states: u16, gens: u64) -> bool
 }
 
 fn is_within(view: &View) -> bool
-    ensures { IsTrue result → IsWithin view.now }
+    ensures { IsTrue result → KeepsViewLimits view.now }
 {
     view.has_window_size() && view.lies_in_range()
 }

@@ -4,14 +4,14 @@ use Rattle.std.proofs.Math.Seq.{take-length}
 use Rattle.std.proofs.lemmas.List.{take-append-le}
 use Rattle.std.specs.Option.{option_map}
 use Rattle.std.specs.Io.KnownBytes.{IsAtEnd}
-use Rattle.script_lines.specs.Ahead.{Ahead, Takes}
+use Rattle.script_lines.specs.Ahead.{Ahead, TakesBytes}
 use Rattle.script_lines.proofs.Shared.Ahead.{takes_then}
 use Rattle.text_lines.specs.Blanks.{trim}
 use Rattle.text_lines.specs.Lines.{End, Ended, Broken, Line, NoLineFeed, full_line, last_line, lines_from, lines_until}
 use Rattle.script_lines.specs.KeptLine.{TakesLine, raw_of, Says}
-use Rattle.script_lines.specs.Script.{Follows, LineTaken, EndsHere, TakesInto, StopsInLine, TextTaken, NoEndAmong, next_number}
+use Rattle.script_lines.specs.Script.{MayFollow, LineTaken, EndsHere, TakesInto, StopsInLine, TextTaken, NoEndAmong, next_number}
 use Rattle.script_lines.specs.ScriptLine.{NoneEnds, raw_bytes, is_end}
-use Rattle.script_lines.specs.Text.{Grows, IsText, len_of}
+use Rattle.script_lines.specs.Text.{GrowsText, IsText, len_of}
 use Rattle.script_lines.specs.declared.kept_line.KeptLine.{KeptLine}
 use Rattle.script_lines.specs.declared.kept_line.Found.{Found}
 use Rattle.script_lines.specs.declared.kept_line.Found.TheVariants as found
@@ -31,7 +31,7 @@ last_line-ended [] n = absurd (n refl)
 last_line-ended (b ∷ bs) n = refl
 
 taken_line : (old new : Ahead) (before after : Option (List ℕ)) (kept : KeptLine) (seen : List ℕ) → NoLineFeed seen
-    → Grows before after (raw_of found.Line seen) → TakesLine found.Line old new seen kept → TakesInto found.Line old new kept before after
+    → GrowsText before after (raw_of found.Line seen) → TakesLine found.Line old new seen kept → TakesInto found.Line old new kept before after
 taken_line old new before after kept seen h g t = (
   record {
     line = full_line seen;
@@ -44,7 +44,7 @@ taken_line old new before after kept seen h g t = (
 )
 
 taken_last : (old new : Ahead) (before after : Option (List ℕ)) (kept : KeptLine) (seen : List ℕ) → NoLineFeed seen
-    → Grows before after (raw_of found.Last seen) → TakesLine found.Last old new seen kept → TakesInto found.Last old new kept before after
+    → GrowsText before after (raw_of found.Last seen) → TakesLine found.Last old new seen kept → TakesInto found.Last old new kept before after
 taken_last old new before after kept seen h g t = (
   record {
     line = record { says = trim seen; raw = seen };
@@ -63,13 +63,13 @@ taken_last old new before after kept seen h g t = (
 
 -- what was read of a line is a line of the script
 pub takes_into : (found : Found) (old new : Ahead) (before after : Option (List ℕ)) (kept : KeptLine) (seen : List ℕ) → NoLineFeed seen
-    → Grows before after (raw_of found seen) → TakesLine found old new seen kept → TakesInto found old new kept before after
+    → GrowsText before after (raw_of found seen) → TakesLine found old new seen kept → TakesInto found old new kept before after
 takes_into found.Line old new before after kept seen h g t = taken_line old new before after kept seen h g t
 takes_into found.Last old new before after kept seen h g t = taken_last old new before after kept seen h g t
 takes_into found.End old new before after kept seen h g t = (t.1, t.2)
 
 -- what was read of a line that was broken off is no line
-pub stops_in_line : (old new : Ahead) (seen : List ℕ) → NoLineFeed seen → Takes old new seen → StopsInLine old new
+pub stops_in_line : (old new : Ahead) (seen : List ℕ) → NoLineFeed seen → TakesBytes old new seen → StopsInLine old new
 stops_in_line old new seen h c = record { seen = seen; taken = c; none = lines_from-rest Broken [] seen h }
 
 -- a line has a byte at least
@@ -77,7 +77,7 @@ some_raw : (raw : List ℕ) (line : Line) → lines_until Ended (raw ++ []) ≡ 
 some_raw [] line e = absurd (cc)
 some_raw (b ∷ bs) line e = omega arith
 
-follows_none : (last : Bool) → Follows last Ended []
+follows_none : (last : Bool) → MayFollow last Ended []
 follows_none true = (refl, refl)
 follows_none false = tt
 
@@ -106,7 +106,7 @@ numbers_line found.End old new seen kept n t h = omega (arith, t.1.counted, h)
 -- the lines of a text so far
 pub record TextSoFar (old new : Ahead) (text : Option (List ℕ)) (n m : ℕ) : Type 0 where
   pub lines : List Line
-  pub taken : Takes old new (raw_bytes lines)
+  pub taken : TakesBytes old new (raw_bytes lines)
   pub law : (stop : End) (more : List ℕ) → lines_until stop (raw_bytes lines ++ more) ≡ lines ++ lines_until stop more
   pub inside : NoneEnds lines
   pub is : IsText text (raw_bytes lines)
@@ -120,12 +120,12 @@ none_ends-push : (lines : List Line) (line : Line) → NoneEnds lines → is_end
 none_ends-push [] line h e = (e, tt)
 none_ends-push (l ∷ lines) line h e = (h.0, none_ends-push lines line h.1 e)
 
-is_text-grows : (before after : Option (List ℕ)) (bs raw : List ℕ) → Grows before after raw → IsText before bs → IsText after (bs ++ raw)
+is_text-grows : (before after : Option (List ℕ)) (bs raw : List ℕ) → GrowsText before after raw → IsText before bs → IsText after (bs ++ raw)
 is_text-grows before None bs raw g i = tt
 is_text-grows None (Some ys) bs raw g i = absurd g
 is_text-grows (Some xs) (Some ys) bs raw g i = g ∙ ap (λ t. t ++ raw) i
 
-is_text-cut : (before after : Option (List ℕ)) (bs raw : List ℕ) → Grows before after raw → IsText before bs → IsText (option_map (take (len_of before)) after) bs
+is_text-cut : (before after : Option (List ℕ)) (bs raw : List ℕ) → GrowsText before after raw → IsText before bs → IsText (option_map (take (len_of before)) after) bs
 is_text-cut before None bs raw g i = tt
 is_text-cut None (Some ys) bs raw g i = absurd g
 is_text-cut (Some xs) (Some ys) bs raw g i =
@@ -134,10 +134,10 @@ is_text-cut (Some xs) (Some ys) bs raw g i =
 
 -- a line that does not end the text is the text's
 pub text_goes_on : (old mid new : Ahead) (before after : Option (List ℕ)) (kept : KeptLine) (n m k : ℕ) → (t : LineTaken false mid new kept)
-    → Grows before after t.line.raw → is_end t.line.says ≡ false → k ≡ m + 1 → TextSoFar old mid before n m → TextSoFar old new after n k
+    → GrowsText before after t.line.raw → is_end t.line.says ≡ false → k ≡ m + 1 → TextSoFar old mid before n m → TextSoFar old new after n k
 text_goes_on old mid new before after kept n m k t g other e so = record {
   lines = so.lines ++ t.line ∷ [];
-  taken = subst (Takes old new) (sym (raw_bytes-push so.lines t.line)) (takes_then old mid new (raw_bytes so.lines) t.line.raw so.taken t.taken);
+  taken = subst (TakesBytes old new) (sym (raw_bytes-push so.lines t.line)) (takes_then old mid new (raw_bytes so.lines) t.line.raw so.taken t.taken);
   law = λ stop more. ap (λ v. lines_until stop (v ++ more)) (raw_bytes-push so.lines t.line) ∙ ap (lines_until stop) (append_assoc (raw_bytes so.lines) t.line.raw more) ∙ so.law stop (t.line.raw ++ more)
       ∙ ap (λ ls. so.lines ++ ls) (t.law stop more tt) ∙ sym (append_assoc so.lines (t.line ∷ []) (lines_until stop more));
   inside = none_ends-push so.lines t.line so.inside other;
@@ -147,7 +147,7 @@ text_goes_on old mid new before after kept n m k t g other e so = record {
 
 -- the line that ends the text
 pub text_ends : (last : Bool) (old mid new : Ahead) (before after : Option (List ℕ)) (kept : KeptLine) (n m k : ℕ) → (t : LineTaken last mid new kept)
-    → Grows before after t.line.raw → is_end t.line.says ≡ true → k ≡ m + 1 → TextSoFar old mid before n m
+    → GrowsText before after t.line.raw → is_end t.line.says ≡ true → k ≡ m + 1 → TextSoFar old mid before n m
     → TextTaken last (option_map (take (len_of before)) after) old new n k
 text_ends last old mid new before after kept n m k t g ends e so = record {
   lines = so.lines;

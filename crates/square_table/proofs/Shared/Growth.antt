@@ -1,7 +1,7 @@
 -- Tables that have more rows than before: what a number stood for it stands for still.
 use Rattle.std.proofs.Common.{◌≡◌, ℕ, suc, ◌+◌, ◌-◌, ◌<◌, ◌≤◌, List, [], ◌∷◌, ◌++◌, length, refl, sym, ◌∙◌, ap, subst, arith}
 use Rattle.std.proofs.lemmas.List.{append-nil, append_assoc, length_push}
-use Rattle.square_table.specs.Squares.{Table, IsNumber, AreNumbers, square_in, square_of, kids_at, first_number, IsSquareOf, Grows, Keeps, with_row, level_of, number_of}
+use Rattle.square_table.specs.Squares.{Table, IsNumber, AreNumbers, square_in, square_of, kids_at, first_number, IsSquareOf, Grows, KeepsSquares, with_row, level_of, number_of}
 use Rattle.square_table.proofs.Shared.Tables.{IsNumber-more, square_in-more, kept_row, above_zero}
 
 pub Grows-same : (t : Table) → Grows t t
@@ -49,7 +49,7 @@ AreNumbers-grows t u k kids grows are = record {
 pub square_of-grows : (t u : Table) (k : ℕ) (kids : List ℕ) → Grows t u → AreNumbers t.rows k kids → square_of u.rows k kids ≡ square_of t.rows k kids
 square_of-grows t u k kids grows are = grind (arith, square_in-grows)
 
-pub Keeps-grows : (t u : Table) → Grows t u → Keeps t u
+pub Keeps-grows : (t u : Table) → Grows t u → KeepsSquares t u
 Keeps-grows t u grows = record {
   limit = grows.limit;
   held = λ s h. record {

@@ -1,7 +1,7 @@
 use Rattle.std.proofs.Common.{◌≡◌, ◌∙◌, ◌++◌, map, sym, ap₂, subst, rules}
 use Rattle.std.specs.List.{AllByRecursion}
 use Rattle.dependency_book.specs.ShownRows.{IsScratch, shown_rows}
-use Rattle.desk_board.specs.Picture.{IsRight, picture, picture_of, row_of}
+use Rattle.desk_board.specs.Picture.{IsRightPicture, picture, picture_of, row_of}
 use Rattle.desk_board.proofs.Pictures.{right_picture, whole_picture}
 use Rattle.desk_board.proofs.taking.snapshot.Goals as goal
 
@@ -12,10 +12,10 @@ pub of-requires : goal.of-requires
 of-requires c =
     let is : picture c.in_ok-copy.field-0 c.loop-bookmark.rows.items ≡ picture_of c.args.desk.now = whole_picture c.args.desk.now _ _ c.loop-bookmark.bookmark-iterator (search rules) (search rules) c.loop-bookmark.invariant in
     let right : AllByRecursion (IsScratch c.args.desk.now.plan) (shown_rows c.args.desk.now) = subst (AllByRecursion (IsScratch c.args.desk.now.plan)) c.rows-bookmark-items.ensures.rows c.rows-bookmark-items.ensures.right in
-    subst IsRight (sym is) (right_picture c.args.desk.now right)
+    subst IsRightPicture (sym is) (right_picture c.args.desk.now right)
 
 pub returns : goal.returns
 returns c =
     let is : picture c.in_ok-copy.field-0 c.loop-bookmark.rows.items ≡ picture_of c.args.desk.now = whole_picture c.args.desk.now _ _ c.loop-bookmark.bookmark-iterator (search rules) (search rules) c.loop-bookmark.invariant in
     let right : AllByRecursion (IsScratch c.args.desk.now.plan) (shown_rows c.args.desk.now) = subst (AllByRecursion (IsScratch c.args.desk.now.plan)) c.rows-bookmark-items.ensures.rows c.rows-bookmark-items.ensures.right in
-    record { desk = c.of.ensures ∙ is; right = subst IsRight (sym (c.of.ensures ∙ is)) (right_picture c.args.desk.now right) }
+    record { desk = c.of.ensures ∙ is; right = subst IsRightPicture (sym (c.of.ensures ∙ is)) (right_picture c.args.desk.now right) }

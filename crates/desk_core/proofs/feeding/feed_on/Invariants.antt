@@ -1,4 +1,4 @@
-use Rattle.dependency_book.specs.BookState.{wanting_of}
+use Rattle.dependency_book.specs.BookState.{empty_rows_of}
 use Rattle.desk_core.proofs.Fed.{HasFed}
 use Rattle.desk_core.proofs.feeding.feed_on.Given as goal
 
@@ -8,4 +8,4 @@ invariant-loop-job g l = record {
 }
 
 abbrev pub decreases-loop-job : goal.decreases-loop-job
-decreases-loop-job g l = wanting_of l.desk
+decreases-loop-job g l = empty_rows_of l.desk

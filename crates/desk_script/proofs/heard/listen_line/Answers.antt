@@ -1,7 +1,7 @@
 use Rattle.std.proofs.Common.{◌≡◌, ◌∙◌, ap, sym, subst, List, ℕ, Option, None, Some}
 use Rattle.script_lines.specs.Words.{words}
 use Rattle.desk_script.specs.Command.{command_of_words, format_of, format_of_words}
-use Rattle.desk_script.specs.Heard.{AsksFor}
+use Rattle.desk_script.specs.Heard.{IsReadAs}
 use Rattle.desk_script.specs.Asks.{asked_by}
 use Rattle.desk_script.specs.declared.format.Format.{Format}
 use Rattle.desk_script.proofs.Hearing.{if_ok_map, on_err_map, hears-command, hears-last_text, hears-text, breaks-text}
@@ -28,7 +28,7 @@ returns-in_default-read_format-clause-heard g c = λ start t.
     hears-command start _ _ c.args.last request c.args.reader.now.lines number c.line_number-number.ensures t
     (sym (c.if-is_passed_over.ensures t.line.says t.says))
     (format-is c.in-Some.words.now t.line.says None c.in_default-read_format.ensures same)
-    (subst (λ ws. AsksFor request (asked_by number (command_of_words ws))) same c.read_request-request.ensures)
+    (subst (λ ws. IsReadAs request (asked_by number (command_of_words ws))) same c.read_request-request.ensures)
 
 pub returns-then-last-clause-heard : goal.returns-then-last-clause-heard
 returns-then-last-clause-heard g c = λ start t.

@@ -5,8 +5,8 @@ use Rattle.hash_life.specs.Result.{later}
 use Rattle.hash_life.specs.Makes.{Makes}
 use Rattle.hash_life.proofs.Shared.InTwo.{Puts-itself, result-later}
 use Rattle.hash_engine.specs.Found.{IsSameRule}
-use Rattle.hash_engine.specs.Memo.{IsRight}
-use Rattle.hash_engine.specs.Search.{sought, Keeps, IsCounted}
+use Rattle.hash_engine.specs.Memo.{IsRightMemo}
+use Rattle.hash_engine.specs.Search.{sought, KeepsOnWay, IsCounted}
 use Rattle.hash_engine.specs.declared.memo.Memo.{Memo}
 use Rattle.hash_engine.proofs.Standing.{above}
 use Rattle.hash_engine.proofs.Shared.{IsRight-grows}
@@ -18,7 +18,7 @@ later-requires g c = search (rules, Puts-itself)
 
 -- the rule was asked, and the table has the square that came of it
 asked : (n : ℕ) {next new : List ℕ → ℕ} {c d ahead : ℕ} {t u : Table} {memo : Memo} → 0 < ahead → IsSameRule next new c d →
-    Adds (later next (sought t 0 n) ∷ []) t u → IsRight next t.rows memo → Keeps next new c d (Makes next 0 ahead (sought t 0 n)) t u memo
+    Adds (later next (sought t 0 n) ∷ []) t u → IsRightMemo next t.rows memo → KeepsOnWay next new c d (Makes next 0 ahead (sought t 0 n)) t u memo
 asked n {next} {new} {c} {d} {ahead} {t} {u} {memo} some rule adds right =
     let made = adds_result next 0 ahead (sought t 0 n) (sym (result-later next ahead (sought t 0 n) some)) adds in
     grind (arith, made, adds.grows, IsRight-grows next t u memo adds.grows right)

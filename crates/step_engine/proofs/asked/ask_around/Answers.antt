@@ -4,7 +4,7 @@ use Rattle.std.proofs.lemmas.List.{take_more, take_all}
 use Rattle.worlds.specs.World.{Place}
 use Rattle.worlds.specs.Step.{places_around}
 use Rattle.step_engine.specs.Asked.{AsksMore}
-use Rattle.step_engine.specs.Room.{HasRoom}
+use Rattle.step_engine.specs.Room.{HasRoomAround}
 use Rattle.step_engine.proofs.Asks.{AsksMore-at, AsksMore-none, AsksMore-then}
 use Rattle.step_engine.proofs.Offsets.{near_at, place_at}
 use Rattle.step_engine.proofs.Rooms.{held_near}
@@ -23,7 +23,7 @@ pub ask_at-requires-clause-held : goal.ask_at-requires-clause-held
 ask_at-requires-clause-held g c =
     let below : c.loop-offset.offset-index < 9 = omega arith in
     let near = near_at c.loop-offset.offset-index (record { x = pos 0; y = pos 0 }) below in
-    let room : HasRoom c.loop-offset.asked.patch.level c.args.spot.x c.args.spot.y = subst (λ l. HasRoom l c.args.spot.x c.args.spot.y) (sym c.loop-offset.invariant.level) c.requires.room in
+    let room : HasRoomAround c.loop-offset.asked.patch.level c.args.spot.x c.args.spot.y = subst (λ l. HasRoomAround l c.args.spot.x c.args.spot.y) (sym c.loop-offset.invariant.level) c.requires.room in
     held_near c.loop-offset.asked.patch.level c.args.spot.x c.args.spot.y _ _ room (omega (arith, ints)) (omega (arith, ints)) (omega (arith, ints)) (omega (arith, ints))
 
 pub loop-offset-preserved : goal.loop-offset-preserved

@@ -1,7 +1,7 @@
 use Rattle.std.proofs.Common.{◌≡◌, ◌≤◌, length, unwrap_or, sym, ◌∙◌, inr}
 use Rattle.worlds.specs.Step.{nine_zeros}
 use Rattle.table_symmetry.specs.Expanded.{expanded, first_match, transition_limit}
-use Rattle.table_symmetry.specs.Kept.{IsKept}
+use Rattle.table_symmetry.specs.Kept.{IsKeptTable}
 use Rattle.table_symmetry.specs.NextState.{inputs_of}
 use Rattle.table_symmetry.proofs.Limits.{are_expanded, is_kept, within_limits-restless}
 use Rattle.table_symmetry.proofs.table_reader.finish.Goals as goal
@@ -15,7 +15,7 @@ few c = rw c.in_ok-rows.ensures.0 at c.in_ok-rows.ensures.1
 found : (c : After-zeros_become) → c.zeros_become.result ≡ first_match (expanded c.args.lines) (inputs_of c.args.lines.neighborhood nine_zeros)
 found c = rw (c.deref.ensures.value, c.in_ok-rows.ensures.0, c.neighborhood.ensures) at c.zeros_become.ensures
 
-kept : (c : After-zeros_become) → unwrap_or c.zeros_become.result 0 ≡ 0 → IsKept c.args.lines
+kept : (c : After-zeros_become) → unwrap_or c.zeros_become.result 0 ≡ 0 → IsKeptTable c.args.lines
 kept c quiet = is_kept c.args.lines (rw c.lines.view_is at c.lines.invariant) (few c) (found c) quiet
 
 pub returns-then-unwrap_or-ne0-clause-table : goal.returns-then-unwrap_or-ne0-clause-table

@@ -4,7 +4,7 @@ use Rattle.std.specs.Int.{bit_at}
 use Rattle.std.proofs.lemmas.List.{take_all}
 use Rattle.std.proofs.lemmas.List.Elements.{All-more}
 use Rattle.tree_translation.specs.Layers.{lets}
-use Rattle.tree_translation.specs.Near.{AreAlike}
+use Rattle.tree_translation.specs.Near.{TreatsAlike}
 use Rattle.tree_translation.proofs.TailsNear.{alike-bits}
 use Rattle.tree_translation.proofs.near.states_alike.Goals as goal
 
@@ -19,11 +19,11 @@ loop-number-preserved c =
     let word = c.word-word.result in
     let bits : (bit : ℕ) → bit < 64 → (bit_at word bit == 1) ≡ lets layer number (64 * (state / 64) + bit) = rw c.from.ensures at c.word-word.ensures in
     let alike : (i : ℕ) → i < c.bits_alike.result → bit_at word (state % 64 + i) ≡ bit_at word (state % 64) = rw c.from-in-loop-number.ensures at c.bits_alike.ensures.alike in
-    let here : AreAlike layer state count number = alike-bits layer number state count word bits (omega arith) (λ i h. alike i (omega arith)) in
+    let here : TreatsAlike layer state count number = alike-bits layer number state count word bits (omega arith) (λ i h. alike i (omega arith)) in
     record {
       some = omega arith;
       within = omega arith;
-      alike = All-more (AreAlike layer state count) list index 0 c.loop-number-test.true
+      alike = All-more (TreatsAlike layer state count) list index 0 c.loop-number-test.true
           (λ k d l s low high. c.loop-number.invariant.alike k d l s low (omega arith)) here;
     }
 

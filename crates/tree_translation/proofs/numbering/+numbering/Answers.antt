@@ -4,8 +4,8 @@ use Rattle.tree_translation.specs.declared.listed.Listed.{Listed}
 use Rattle.tree_translation.specs.declared.listed.Node.{Node}
 use Rattle.tree_translation.specs.declared.numbering.Found.{Found}
 use Rattle.tree_translation.specs.Layers.{IsLayer}
-use Rattle.tree_translation.specs.Near.{AreAlike}
-use Rattle.tree_translation.specs.Numbering.{AreFit, AreTailsAt, Grows, IsEntry, IsNumberOf}
+use Rattle.tree_translation.specs.Near.{TreatsAlike}
+use Rattle.tree_translation.specs.Numbering.{AreFit, AreTailsAt, GrowsNodes, IsEntry, IsNumberOf}
 use Rattle.tree_translation.specs.Translation.{LeftOf}
 use Rattle.tree_translation.proofs.Apart.{passed-on}
 use Rattle.tree_translation.proofs.MadeNodes.{Grows-behind, IsEntry-append, is-later, NeedsTooMany-behind, layer-before, layer-last, layer-room, made, too-many}
@@ -53,7 +53,7 @@ left : (t : ℕ) (c : entries_of-In_ok-left t) (s : ℕ) → c.loop-state.state 
 left t c s low high d =
     let layer = c.index-layers-input.result in
     let near = c.in_ok-near.near.items in
-    let alike : All (AreAlike layer c.loop-state.state c.min-alike.result) near = λ k e l r from below.
+    let alike : All (TreatsAlike layer c.loop-state.state c.min-alike.result) near = λ k e l r from below.
     (rw c.deref.ensures.value at c.states_alike.ensures.alike) k e l r from (omega arith) in
     let is : LeftOf layer c.loop-state.state near c.in_ok-left.left.items = rw c.deref-in-loop-state.ensures.value at c.in_ok-left.ensures.left in
     rw (← (c.index-layers-input.is ∙ get_or_default c.args.layers.now c.args.input layer d c.requires.tails.there))
@@ -80,7 +80,7 @@ entries_of-loop-state-preserved t c =
     let is = left t (goal.at.entries_of-loop-state-preserved t c).In_ok-left in
     let number = c.in_ok-number.number in
     let until : ℕ = state + c.min-alike.result in
-    let grown : Grows states layers (input + 1) (input + 1) c.in_ok-left.left.items mid new = rw c.deref-in-loop-state-2.ensures.value at c.in_ok-number.ensures.grows in
+    let grown : GrowsNodes states layers (input + 1) (input + 1) c.in_ok-left.left.items mid new = rw c.deref-in-loop-state-2.ensures.value at c.in_ok-number.ensures.grows in
     let numbered : IsNumberOf states layers new.nodes.keys (input + 1) c.in_ok-left.left.items number = rw c.deref-in-loop-state-2.ensures.value at c.in_ok-number.ensures.number in
     let before : (s : ℕ) → s < state → IsEntry states layers new.nodes.keys input list s (slice_index entries s) = λ s l.
     rw grown.joined (IsEntry-append mid.nodes.keys grown.more states layers input list s (slice_index entries s) (omega (arith, c.requires.fit.some)) (known.each s l)) in

@@ -1,7 +1,7 @@
 use Rattle.std.proofs.Common.{◌≡◌, ℕ, ◌+◌, ◌-◌, ◌*◌, ◌/◌, ◌%◌, ◌<◌, ◌≤◌, ◌≢◌, length, slice_index, false}
 use Rattle.std.specs.Prelude.{All, IfSome}
 use Rattle.tree_translation.specs.Near.{AreNear}
-use Rattle.tree_translation.specs.Numbering.{Grows, IsEntry, IsNumberOf}
+use Rattle.tree_translation.specs.Numbering.{GrowsNodes, IsEntry, IsNumberOf}
 use Rattle.tree_translation.proofs.numbering.+numbering.Given as goal
 
 abbrev pub decreases-number_again : goal.decreases-number_again
@@ -17,7 +17,7 @@ abbrev pub invariant-entries_of-loop-state : goal.invariant-entries_of-loop-stat
 invariant-entries_of-loop-state l = record {
   width : length l.entries.items ≡ l.state;
   each : (s : ℕ) → s < l.state → IsEntry l.states l.layers l.found.nodes.keys l.input l.list s (slice_index l.entries.items s);
-  grows : Grows l.states l.layers l.input (l.input + 1) l.list l.fn.found l.found;
+  grows : GrowsNodes l.states l.layers l.input (l.input + 1) l.list l.fn.found l.found;
   clear : All (λ b. b ≡ false) l.marks;
   near : l.state % 64 ≢ 0 → AreNear l.layer (l.state / 64) l.list l.near.items;
   until : l.state ≤ l.states;

@@ -1,6 +1,6 @@
 use Rattle.std.proofs.Common.{◌≡◌, sym, subst}
 use Rattle.dependency_book.specs.declared.filled.Filled.TheVariants.{Row}
-use Rattle.dependency_book.specs.Called.{Takes}
+use Rattle.dependency_book.specs.Called.{TakesAnswer}
 use Rattle.desk_events.proofs.Shared.Tests.{clash}
 use Rattle.dependency_book.proofs.Recalled.{Filling, filled_alone, filled_then, took}
 use Rattle.dependency_book.proofs.book.Book.fill.Goals.{in-Row, in_default}
@@ -18,7 +18,7 @@ returns-then-matches c =
           (clash c.match-matches.matches c.if-matches.true w.matches-is)
     ] in
     let h = subst (Filling c.args.answer old new) (sym row)
-    (filled_then (subst (Takes c.args.answer old c.take-filled.new.self) row taken)
+    (filled_then (subst (TakesAnswer c.args.answer old c.take-filled.new.self) row taken)
     c.recall_all.ensures.recalls) in
     assumption (h, c.recall_all.ensures.right)
 

@@ -5,11 +5,11 @@ use Rattle.std.proofs.lemmas.List.Sums.{count_by-le-length}
 use Rattle.dependency_book.specs.BookState.{BookState, is_pending}
 use Rattle.dependency_book.specs.Rows.{TextRow}
 use Rattle.dependency_book.specs.Inside.{state_of}
-use Rattle.dependency_book.specs.Right.{IsRight}
+use Rattle.dependency_book.specs.Right.{IsRightBook}
 use Rattle.dependency_book.proofs.book.Book.pending.Goals as goal
 
 -- no more texts are pending than there are bookmarks
-few : (d : BookState) → IsRight d → count_by is_pending d.texts ≤ length d.plan.bookmarks
+few : (d : BookState) → IsRightBook d → count_by is_pending d.texts ≤ length d.plan.bookmarks
 few d right =
     let same = length-map d.texts (λ (r : TextRow). r.key) in
     let are = ap length right.bookmarks in

@@ -14,7 +14,7 @@ use Rattle.revision_jobs.specs.Value.{pattern, world_after}
 use Rattle.dependency_book.specs.declared.row.RowState.TheVariants.{Empty, Known}
 use Rattle.dependency_book.specs.BookState.{BookState, row_of}
 use Rattle.desk_events.specs.Needs.{step_to}
-use Rattle.dependency_book.specs.Puts.{CanBePut, Puts}
+use Rattle.dependency_book.specs.Puts.{CanBePut, PutsRow}
 use Rattle.dependency_book.specs.Recalled.{AreGiven, WasGiven}
 use Rattle.dependency_book.proofs.Recalled.{CanBeEntered, can_enter, entered, given_before}
 use Rattle.dependency_book.proofs.Working.{may_change}
@@ -62,6 +62,6 @@ returns-clause-recalls c =
     (c.of.ensures
     ∙ right_one c.in-Ok-Some.field-0 c.in-Ok-Some.plane c.in-Ok.step c.in-Ok-Some.field-0-is
     c.in-Ok-Some.ensures.right)
-    (subst (λ (d : BookState). Puts (step_to c.args.mark) (Known (pattern c.of.result)) d
+    (subst (λ (d : BookState). PutsRow (step_to c.args.mark) (Known (pattern c.of.result)) d
     c.put_arrival.new.self)
     c.self.view_is c.put_arrival.ensures.row)

@@ -4,7 +4,7 @@ use Rattle.dependency_book.specs.BookState.{BookState}
 use Rattle.dependency_book.specs.Inside.{state_of}
 use Rattle.document_marks.proofs.Shared.Grown.{is_within}
 use Rattle.dependency_book.specs.declared.room.Room.{Room}
-use Rattle.dependency_book.specs.Room.{HasRoom}
+use Rattle.dependency_book.specs.Room.{HasPlaces}
 use Rattle.dependency_book.proofs.Outs.{all_own, held_by}
 use Rattle.dependency_book.proofs.Passed.{passed_none}
 use Rattle.dependency_book.proofs.Revised.{Revises, revises, with_rows}
@@ -12,8 +12,8 @@ use Rattle.dependency_book.proofs.book.Book.remake.Goals.{After-self-1}
 use Rattle.dependency_book.proofs.book.Book.remake.Goals as goal
 
 -- room for more is room for fewer
-room_for : (room : Room) (marks bookmarks fewer less : ℕ) → HasRoom room marks bookmarks → fewer ≤ marks
-    → less ≤ bookmarks → HasRoom room fewer less
+room_for : (room : Room) (marks bookmarks fewer less : ℕ) → HasPlaces room marks bookmarks → fewer ≤ marks
+    → less ≤ bookmarks → HasPlaces room fewer less
 room_for room marks bookmarks fewer less h few low = grind arith
 
 pub rows_of-rows-requires-clause-room : goal.rows_of-rows-requires-clause-room

@@ -1,6 +1,6 @@
 use Rattle.std.proofs.Common.{◌≡◌, true, false, Option, None, Some, MatchOption, refl, sym, subst}
 use Rattle.revision_jobs.specs.Answer.{result_in}
-use Rattle.dependency_book.specs.Called.{Takes}
+use Rattle.dependency_book.specs.Called.{TakesAnswer}
 use Rattle.dependency_book.proofs.Working.{IsAwaited, answer_takes, elsewhere, may_stand, none_numbered, none_takes}
 use Rattle.dependency_book.proofs.book.Book.take.Goals as goal
 use Rattle.dependency_book.proofs.book.Book.take.Goals.{in_default-2, in_default}
@@ -35,7 +35,7 @@ returns-in-Some-clause-takes c =
       c.if-same.ensures.entry refl,
       c.requires.right,
     ) in
-    subst (Takes (result_in c.args.parts) c.args.self.now e) (sym c.fill_row.ensures.filled)
+    subst (TakesAnswer (result_in c.args.parts) c.args.self.now e) (sym c.fill_row.ensures.filled)
     (answer_takes h e c.fill_row.ensures.row)
 
 -- no row expects the job
@@ -43,7 +43,7 @@ pub returns-clause-takes : goal.returns-clause-takes
 returns-clause-takes c =
     let d = c.args.self.now in
     let job = c.args.parts.job in
-    let takes = Takes (result_in c.args.parts) d d in
+    let takes = TakesAnswer (result_in c.args.parts) d d in
     elim c.match-expecting.branch [
       | in_default-2 w ↦
           subst takes (sym w.result-is)
