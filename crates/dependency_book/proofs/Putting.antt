@@ -27,7 +27,7 @@ use Rattle.desk_events.proofs.Shared.Marks.{mark_near}
 use Rattle.dependency_book.proofs.Outs.{held_by}
 use Rattle.dependency_book.proofs.Standing.{has, keys-put, state_at-put_same, state_at-put_other, place_in-keys, count-put}
 use Rattle.desk_events.proofs.Shared.Tests.{either_way}
-use Rattle.desk_events.specs.Right.{IsRightBook as IsRightCore, Stands}
+use Rattle.desk_events.specs.Right.{IsRight as IsRightCore, Stands}
 use Rattle.dependency_book.proofs.Shared.Cores.{put_core, put_there}
 use Rattle.schedule.specs.Scratch.{arrival}
 use Rattle.desk_events.specs.Core.{holds}

@@ -22,7 +22,7 @@ use Rattle.desk_events.specs.Entry.{world_after as core_after}
 use Rattle.desk_events.specs.Event.{CanRecall, Event, after_event, collects, recalls}
 use Rattle.desk_events.specs.Law.{Calls, Follows, Recalled}
 use Rattle.desk_events.specs.Law as core
-use Rattle.desk_events.specs.Right.{IsRightBook as IsRightCore}
+use Rattle.desk_events.specs.Right.{IsRight as IsRightCore}
 use Rattle.desk_events.proofs.Shared.Right.{recalls_right, same_comes}
 use Rattle.dependency_book.specs.Called.{IsCollect, TakesAnswer}
 use Rattle.dependency_book.specs.Core.{core_of, plain_row}

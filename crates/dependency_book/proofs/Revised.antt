@@ -38,7 +38,7 @@ use Rattle.dependency_book.proofs.Remaking.{kept_for, keys-remade, state_at-rema
 use Rattle.dependency_book.proofs.Standing.{has, key_row, state_at-above, state_row}
 use Rattle.desk_events.specs.Core.{arrival_in}
 use Rattle.desk_events.specs.Event.{MayBeAsked, after_edit as core_after_edit, after_event, edits, kept_row}
-use Rattle.desk_events.specs.Right.{IsRightBook as IsRightCore}
+use Rattle.desk_events.specs.Right.{IsRight as IsRightCore}
 use Rattle.desk_events.proofs.Shared.Right.{edits_right_on}
 use Rattle.dependency_book.specs.Called.{IsEdit}
 use Rattle.dependency_book.specs.Core.{core_of, plain_row}

@@ -12,7 +12,7 @@ use Rattle.revision_jobs.specs.declared.entry.Entry.{Entry}
 use Rattle.revision_jobs.specs.declared.entry.Entry.TheVariants as entry
 use Rattle.revision_jobs.specs.declared.answer.Job.{Job}
 use Rattle.revision_jobs.specs.declared.entries.Place.{Place}
-use Rattle.revision_jobs.specs.Answer.{JobResult, IsRightBook as IsRightAnswer}
+use Rattle.revision_jobs.specs.Answer.{JobResult, IsRightAnswer}
 use Rattle.revision_jobs.specs.Entries.{IsOf, entry_of, index_of}
 use Rattle.revision_jobs.specs.Room.{HasNoRoom}
 use Rattle.revision_jobs.specs.Value.{Value, text, value}
@@ -27,7 +27,7 @@ use Rattle.desk_events.specs.Event.{CanIssue, IsTrueAnswer, after_event, answere
 use Rattle.desk_events.specs.Law.{Calls}
 use Rattle.desk_events.specs.Marks.{is_mark, is_start, mark_at}
 use Rattle.desk_events.specs.Needs.{is_need, step_to}
-use Rattle.desk_events.specs.Right.{IsRightBook as IsRightCore}
+use Rattle.desk_events.specs.Right.{IsRight as IsRightCore}
 use Rattle.desk_events.specs.Wanted.{bookmark_in, text_wanted}
 use Rattle.desk_events.proofs.Shared.Needs.{need_is, need_same}
 use Rattle.desk_events.proofs.Shared.Right.{get_last, get_left}

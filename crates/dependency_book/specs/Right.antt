@@ -3,7 +3,7 @@ use Rattle.std.specs.Prelude.{◌≡◌, Some, slice_get}
 use Rattle.revision_jobs.specs.declared.answer.Job.{Job}
 use Rattle.revision_jobs.specs.Entries.{IsOf}
 use Rattle.desk_events.specs.declared.need.Need.{Need}
-use Rattle.desk_events.specs.Right.{IsRightBook as IsRightCore}
+use Rattle.desk_events.specs.Right.{IsRight as IsRightCore}
 use Rattle.document_marks.specs.AllMarks.{AreMarksOf}
 use Rattle.dependency_book.specs.BookState.{BookState, expected}
 use Rattle.dependency_book.specs.Core.{core_of}

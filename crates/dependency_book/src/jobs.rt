@@ -1,7 +1,7 @@
 //! Jobs for the rows of a book, and what their answers change.
 ghost use Rattle.std.specs.Prelude.{◌≡◌, MatchOption, IfSome, OnErr, OnOk};
 ghost use Rattle.std.specs.Arc.{arc_value};
-ghost use Rattle.revision_jobs.specs.Answer.{IsRightBook as IsRightAnswer, outcome_of, result_in};
+ghost use Rattle.revision_jobs.specs.Answer.{IsRightAnswer, outcome_of, result_in};
 ghost use Rattle.revision_jobs.specs.Entries.{IsOf};
 ghost use Rattle.revision_jobs.specs.Value.{pattern, text};
 ghost use Rattle.dependency_book.specs.declared.row.RowState.TheVariants.{Empty, Expected, Known};

@@ -1,6 +1,6 @@
 //! What was computed before.
 ghost use Rattle.std.specs.Prelude.{◌≡◌, ◌<◌, length, IsTrue};
-ghost use Rattle.revision_jobs.specs.Answer.{IsRightBook as IsRightAnswer, outcome_of};
+ghost use Rattle.revision_jobs.specs.Answer.{IsRightAnswer, outcome_of};
 ghost use Rattle.revision_jobs.specs.Entries.{IsOf};
 ghost use Rattle.dependency_book.specs.BookState.{row_of};
 ghost use Rattle.desk_events.specs.Needs.{step_to};
