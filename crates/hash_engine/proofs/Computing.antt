@@ -1,26 +1,28 @@
 -- Several results, and a result by nine and by four.
-use Rattle.std.proofs.Common.{◌≡◌, ℕ, suc, ◌+◌, ◌<◌, ◌≤◌, List, length, get_or, sym, ◌∙◌, subst, arith, inl, inr, ◌-◌, ◌^◌, min, map, ap}
+use Rattle.std.proofs.Common.{◌≡◌, ℕ, suc, ◌+◌, ◌<◌, ◌≤◌, List, length, get_or, refl, sym, ◌∙◌, subst, arith, inl, inr, ◌-◌, ◌^◌, min, map, ap}
 use Rattle.std.proofs.Math.ListN.{set}
 use Rattle.std.specs.Prelude.{Contains, All}
 use Rattle.std.proofs.lemmas.Bool.{cases_eq}
-use Rattle.std.proofs.lemmas.List.{length-set, get_or_default, get_or-set_same, get_or-set_other}
-use Rattle.square_table.specs.Squares.{Table, AreNumbers, square_in, square_of, Grows, GrowsBy, IsSquareOf}
+use Rattle.std.proofs.lemmas.List.{length-map, get_or-map, length-set, get_or_default, get_or-set_same, get_or-set_other}
+use Rattle.square_table.specs.Squares.{Table, IsNumber, AreNumbers, square_in, square_of, Grows, GrowsBy, IsSquareOf}
 use Rattle.square_table.proofs.Shared.Growth.{Grows-same, IsNumber-grows, square_in-grows}
+use Rattle.square_table.proofs.Shared.Making.{IsMade-grows}
 use Rattle.hash_life.specs.Puts.{Puts, nine_of, fours_of, IsBelow}
 use Rattle.hash_life.specs.Makes.{Makes}
 use Rattle.hash_engine.specs.declared.memo.Memo.{Memo}
-use Rattle.hash_engine.specs.Search.{CanSeek, CanSeekAll, sought, MakesAll, PutsAll, KeepsOnWay, Asks, IsCounted, IsFound, FirstAreFound, FindsForAll, CanCompute}
-use Rattle.hash_engine.proofs.Finding.{HasPut-grows, Keeps-made, Keeps-grown, Keeps-then, IsFound-then, made_of, adds_result, StandForAll-found, by_number, by_found, Asks-then, Asks-grown, Asks-next, IsPut-grows}
-use Rattle.std.proofs.lemmas.List.Elements.{All-weaker}
-use Rattle.worlds.specs.Square.{Square, one}
+use Rattle.hash_engine.specs.Search.{CanSeek, CanSeekAll, sought, MakesAll, PutsAll, KeepsOnWay, Asks, IsCounted, IsFound, FirstAreFound, FindsForAll, CanCompute, MakesFor, MakesForAll}
+use Rattle.hash_engine.proofs.Making.{HasMade-grows}
+use Rattle.hash_engine.proofs.Finding.{HasPut-grows, Keeps-made, Keeps-grown, Keeps-then, IsFound-then, made_of, adds_result, StandForAll-found, by_number, by_square, by_found, Asks-then, Asks-grown, Asks-next, IsPut-grows}
+use Rattle.std.proofs.lemmas.List.Elements.{All-weaker, All-cons}
+use Rattle.worlds.specs.Square.{Square, one, four}
 use Rattle.square_table.specs.Made.{IsMade}
-use Rattle.hash_life.specs.Result.{in_two, result}
-use Rattle.hash_life.proofs.Shared.InTwo.{OfParts, result-in_two, Puts-parts}
-use Rattle.hash_life.proofs.Shared.Made.{Makes-itself, Makes-parts, Makes-whole}
+use Rattle.hash_life.specs.Result.{middle, in_two, result}
+use Rattle.hash_life.proofs.Shared.InTwo.{OfParts, result-none, result-in_two, Puts-parts}
+use Rattle.hash_life.proofs.Shared.Made.{Makes-itself, Makes-result, Makes-parts, Makes-whole, Makes-weaker}
 use Rattle.hash_life.proofs.Shared.Put.{Puts-whole}
 use Rattle.hash_engine.specs.Standing.{StandsFor, StandForAll}
-use Rattle.hash_engine.specs.Adding.{AddsOf, AddsFours, GiveAllOf, GiveFours}
-use Rattle.hash_engine.specs.Memo.{IsRightMemo, IsPut}
+use Rattle.hash_engine.specs.Adding.{AddsOf, AddsFours, AddsMiddles, GiveAllOf, GiveFours, GivesMiddles, square_of_four}
+use Rattle.hash_engine.specs.Memo.{IsRightMemo, IsPut, HasMade}
 use Rattle.hash_engine.specs.Found.{IsSameRule}
 use Rattle.hash_engine.proofs.Standing.{◌⟫◌, StandsFor-itself, StandsFor-grows, StandsFor-joined, Adds-made}
 
@@ -33,6 +35,15 @@ pub record AreDone (next : List ℕ → ℕ) (k generations i : ℕ) (olds news 
 pub AreDone-all : {next : List ℕ → ℕ} {k generations i : ℕ} {olds news : List ℕ} {t u : Table} {old new : Memo} →
     AreDone next k generations i olds news t old u new → length olds ≤ i → FindsForAll next k generations olds t old u new news
 AreDone-all are all = record { count = are.count; each = λ j d e below. are.found j d e (omega (arith, below, all)) }
+
+-- what is made on the ways to the first i is there, where all was that is made on those to what was remembered
+abbrev pub FirstAreMade : (List ℕ → ℕ) → ℕ → ℕ → ℕ → List ℕ → Table → Memo → Table → Memo → Type 0
+FirstAreMade next k generations i olds t old u new = HasMade next t.rows old → HasMade next u.rows new ×
+    ((j d : ℕ) → j < i → Makes next k generations (sought t k (get_or olds j d)) (IsMade u.rows))
+
+pub FirstAreMade-all : (next : List ℕ → ℕ) (k generations : ℕ) (olds : List ℕ) (t u : Table) {i : ℕ} {old new : Memo} →
+    FirstAreMade next k generations i olds t old u new → length olds ≤ i → MakesForAll next k generations olds t old u new
+FirstAreMade-all next k generations olds t u made all has = let are = made has in (are.0, λ j d below. are.1 j d (omega (arith, below, all)))
 
 -- one square's turn
 module _ {next mid : List ℕ → ℕ} {c d k ahead i : ℕ} {olds news : List ℕ} {t u : Table} {first before : Memo}
@@ -52,6 +63,21 @@ module _ {next mid : List ℕ → ℕ} {c d k ahead i : ℕ} {olds news : List �
       (now : KeepsOnWay mid new d e (Makes mid k ahead (sought u k (get_or news i 0))) u v after) where
     pub turn_keeps : KeepsOnWay next new c e (MakesAll next k ahead olds t) t v after
     turn_keeps = Keeps-then keeps (λ all ways. let here = ways i 0 below in grind (arith, same 0, here)) now
+
+    -- and what is made on the way to it
+    pub turn_made : FirstAreMade next k ahead i olds t first u before → MakesFor mid k ahead (get_or news i 0) u before v after →
+        FirstAreMade next k ahead (i + 1) olds t first v after
+    turn_made made more has =
+        let was = made has in
+        let is = subst (λ f. MakesFor f k ahead (get_or news i 0) u before v after) keeps.rule.meaning more was.0 in (
+          is.0,
+          λ j d early. elim (cases_eq j i) [
+            | inl here ↦ grind (arith, here, same d, is.1)
+            | inr other ↦
+                Makes-weaker next k ahead (sought t k (get_or olds j d)) (IsMade u.rows) (IsMade v.rows) (λ q there. IsMade-grows u v q now.grows there)
+                (was.1 j d (omega (arith, early, other)))
+          ],
+        )
 
     module _ {a0 a1 a2 : ℕ} (asks : IsCounted next k ahead t first → Asks next (PutsAll next k ahead olds t) t first a0 u before a1)
         (more : IsCounted mid k ahead u before → Asks mid (Puts mid k ahead (sought u k (get_or news i 0))) u before a1 v after a2) where
@@ -81,12 +107,28 @@ module _ {next mid : List ℕ → ℕ} {c d k ahead i : ℕ} {olds news : List �
       }
 
 -- the square that four results make
-four_results : (rows : List (List ℕ)) (k n : ℕ) (f g : Square → Square) {now : List (List ℕ)} {l : ℕ} {ends : List ℕ} →
+pub four_results : (rows : List (List ℕ)) (k n : ℕ) (f g : Square → Square) {now : List (List ℕ)} {l : ℕ} {ends : List ℕ} →
     StandForAll now l ends (map g (fours_of (map f (nine_of (square_in rows (suc k) n))))) →
     AreNumbers now l ends × (square_of now l ends ≡ in_two f g (square_in rows (suc k) n))
 unfolding square_in
 four_results rows k n f g are =
     grind (arith, are.count, are.each 0 0 (one 0), are.each 1 0 (one 0), are.each 2 0 (one 0), are.each 3 0 (one 0))
+
+-- the square that the middles of the four make
+four_middles : (rows : List (List ℕ)) (k n : ℕ) (f : Square → Square) →
+    square_of_four (map middle (fours_of (map f (nine_of (square_in rows (suc k) n))))) ≡ in_two f middle (square_in rows (suc k) n)
+unfolding square_in
+four_middles rows k n f = refl
+
+in_two-none : (next : List ℕ → ℕ) (k : ℕ) (f : Square → Square) (s : Square) → in_two f (result next k 0) s ≡ in_two f middle s
+unfolding result
+in_two-none next k f (one x) = refl
+in_two-none next k f (four a b c d) = refl
+
+All-map : (f : Square → Square) (P : Square → Type 0) (ss : List Square) → All (λ s. P (f s)) ss → All P (map f ss)
+All-map f P ss all j d below =
+    let inside : j < length ss = subst (λ l. j < l) (length-map ss f) below in
+    subst P (sym (get_or-map f ss j (one 0) d inside)) (all j (one 0) inside)
 
 -- a square s of level k + 2 with this number, above level 2
 module _ {next : List ℕ → ℕ} {c : ℕ} {t : Table} {memo : Memo} {k ahead number first half : ℕ}
@@ -145,6 +187,41 @@ module _ {next : List ℕ → ℕ} {c : ℕ} {t : Table} {memo : Memo} {k ahead 
             (λ all way. by_number nine_are (λ q. Makes next (k - 1) first q (Contains all)) (makes_parts (Contains all) way).0)
             one_keeps
 
+        -- where no generation is left, the middles of the four of these
+        module _ {results : List ℕ} (one_finds : FindsForAll next (k - 1) first nine a memo b after results) (all_first : first ≡ ahead) where
+          nine_results : StandForAll b.rows (suc (k - 1)) results (map (result next (k - 1) first) (nine_of s))
+          nine_results = StandForAll-found nine_are one_finds
+
+          pub middles_can : (l : ℕ) × All (IsNumber b.rows (suc l)) results
+          middles_can = (k - 1, λ j d below. (nine_results.each j d (one 0) below).numbered)
+
+          left : ahead - first ≡ 0
+          left = omega (arith, all_first)
+
+          -- their square is the result
+          middles_are : square_of_four (map middle fours) ≡ result next k ahead s
+          middles_are =
+              let made = four_middles t.rows (suc k) number (result next (k - 1) first) in
+              let none = in_two-none next (k - 1) (result next (k - 1) first) s in
+              let two = result-in_two next (k - 1) ahead s can.some in
+              let same = subst (λ m. result next (suc (k - 1)) ahead s ≡ in_two (result next (k - 1) m) (result next (k - 1) (ahead - m)) s) (sym is_first) two in
+              let last = subst (λ m. result next (suc (k - 1)) ahead s ≡ in_two (result next (k - 1) first) (result next (k - 1) m) s) left same in
+              made ∙ sym none ∙ sym last ∙ ap (λ l. result next l ahead s) is_k
+
+          pub middles_found : (e : Table) (r : ℕ) → GivesMiddles b results e r → StandsFor e.rows (suc k) r (result next k ahead s)
+          middles_found e r gives =
+              subst (λ l. StandsFor e.rows (suc l) r (result next k ahead s)) is_k
+              (subst (StandsFor e.rows (suc (suc (k - 1))) r) middles_are (gives (k - 1) _ nine_results))
+
+          pub middles_keeps : {e : Table} → AddsMiddles b results e → KeepsOnWay next mid c d (Makes next k ahead s) t e after
+          middles_keeps {e} adds =
+              let made = adds (k - 1) _ nine_results in
+              Keeps-grown first_keeps made.grows (λ all way.
+              let whole = subst (Contains all) (sym middles_are) (Makes-result next k ahead s (Contains all) way) in
+              let parts = subst (λ m. All (λ q. Makes next (k - 1) m q (Contains all)) fours) left (makes_parts (Contains all) way).1 in
+              let each = All-weaker _ _ (λ q makes. subst (Contains all) (result-none next (k - 1) q) (Makes-result next (k - 1) 0 q (Contains all) makes)) fours parts in
+              made.among all (All-cons (Contains all) _ _ whole (All-map middle (Contains all) fours each)))
+
         -- the four of these
         module _ {results : List ℕ} {e : Table} (one_finds : FindsForAll next (k - 1) first nine a memo b after results)
             (adds_four : AddsFours b results e) where
@@ -183,8 +260,8 @@ module _ {next : List ℕ → ℕ} {c : ℕ} {t : Table} {memo : Memo} {k ahead 
 
                 four_ends : AreNumbers f.rows (suc (k - 1)) ends × (square_of f.rows (suc (k - 1)) ends ≡ result next k ahead s)
                 four_ends =
-                    let four = four_results t.rows (suc k) number (result next (k - 1) first) (result next (k - 1) (ahead - first)) (StandForAll-found fours_are two_finds) in
-                    grind (arith, four, is_first, result-in_two next (k - 1) ahead s can.some, is_k)
+                    let joined = four_results t.rows (suc k) number (result next (k - 1) first) (result next (k - 1) (ahead - first)) (StandForAll-found fours_are two_finds) in
+                    grind (arith, joined, is_first, result-in_two next (k - 1) ahead s can.some, is_k)
 
                 joined : (r : ℕ) → IsSquareOf g.rows ends r → StandsFor g.rows (suc k) r (result next k ahead s)
                 joined r is = let whole = StandsFor-joined four_ends.0 fg is (Grows-same g) in grind (arith, whole, four_ends.1, is_k)
@@ -192,6 +269,27 @@ module _ {next : List ℕ → ℕ} {c : ℕ} {t : Table} {memo : Memo} {k ahead 
                 pub joined_keeps : GrowsBy ends f g → KeepsOnWay next new c n (Makes next k ahead s) t g last
                 joined_keeps step =
                     Keeps-grown last_keeps fg (adds_result next k ahead s four_ends.1 (Adds-made four_ends.0 fg step))
+
+                -- what is made on the way is there in the end
+                pub joined_made : MakesForAll next (k - 1) first nine a memo b after →
+                    MakesForAll mid (k - 1) (ahead - first) four_numbers e after f last → (r : ℕ) → IsSquareOf g.rows ends r →
+                    MakesFor next k ahead number t memo g last
+                joined_made first_made more r is has =
+                    let nine_made = first_made (HasMade-grows next t a memo nine_keeps.grows can.seek.right has) in
+                    let still = HasMade-grows next b e after be first_keeps.right nine_made.0 in
+                    let four_made = subst (λ h. MakesForAll h (k - 1) (ahead - first) four_numbers e after f last) fours_keeps.rule.meaning more still in
+                    let to_end = λ (h : Table) (m : ℕ) (hg : Grows h g) (q : Square). Makes-weaker next (k - 1) m q (IsMade h.rows) (IsMade g.rows)
+                    (λ p there. IsMade-grows h g p hg there) in
+                    let nine_there = by_square nine_are (λ q. Makes next (k - 1) first q (IsMade g.rows))
+                    (λ j d below. to_end b first (be ⟫ two_keeps.grows ⟫ fg) _ (nine_made.1 j d below)) in
+                    let four_there = by_square fours_are (λ q. Makes next (k - 1) (ahead - first) q (IsMade g.rows))
+                    (λ j d below. to_end f (ahead - first) fg _ (four_made.1 j d below)) in
+                    let whole = made_of (StandsFor-grows t g (suc (suc k)) number s (last_keeps.grows ⟫ fg) stands) in
+                    let at = subst (λ l. IsMade g.rows (result next l ahead s)) (sym is_k) (made_of (joined r is)) in (
+                      HasMade-grows next f g last fg last_keeps.right four_made.0,
+                      subst (λ l. Makes next l ahead s (IsMade g.rows)) is_k
+                          (Makes-whole next (k - 1) ahead first s (IsMade g.rows) can.some is_first whole at (nine_there, four_there)),
+                    )
 
                 module _ {a0 a1 a2 : ℕ}
                     (one_asks : IsCounted next (k - 1) first a memo → Asks next (PutsAll next (k - 1) first nine a) a memo a0 b after a1)
@@ -231,17 +329,13 @@ module _ {next : List ℕ → ℕ} {c : ℕ} {t : Table} {memo : Memo} {k ahead 
                   joined_finds : (r : ℕ) → IsSquareOf g.rows ends r → IsFound next (IsCounted next k ahead t memo) k ahead s g last r
                   joined_finds r is =
                       let kept = λ (q : Square) (put : IsPut f.rows last.full.items q). IsPut-grows f g last.full.items q fg put in
-                      let nine_found = by_found a results {memo = last} nine_are (λ j d below. IsFound-then {more = last} (be ⟫ two_keeps.grows ⟫ fg) counts_nine
+                      let nine_put = by_found a results {memo = last} nine_are (λ j d below. IsFound-then {more = last} (be ⟫ two_keeps.grows ⟫ fg) counts_nine
                       (λ is q put. kept q ((asks_last is).kept q (IsPut-grows b e after.full.items q be put))) (one_finds.each j d d below)) in
-                      let four_found = by_found e ends {memo = last} fours_are (λ j d below. IsFound-then {more = last} fg counts_fours (λ is q put. kept q put) (two_finds.each j d d below)) in
-                      let whole = made_of (StandsFor-grows t g (suc (suc k)) number s (last_keeps.grows ⟫ fg) stands) in
-                      let at = subst (λ l. IsMade g.rows (result next l ahead s)) (sym is_k) (made_of (joined r is)) in
+                      let four_put = by_found e ends {memo = last} fours_are (λ j d below. IsFound-then {more = last} fg counts_fours (λ is q put. kept q put) (two_finds.each j d d below)) in
                       record {
                         square = joined r is;
-                        made = subst (λ l. Makes next l ahead s (IsMade g.rows)) is_k
-                            (Makes-whole next (k - 1) ahead first s (IsMade g.rows) can.some is_first whole at (nine_found.0, four_found.0));
                         put = λ is. subst (λ l. Puts next l ahead s (IsPut g.rows last.full.items)) is_k
-                            (Puts-whole next (k - 1) ahead first s (IsPut g.rows last.full.items) can.some is_first (nine_found.1 is, four_found.1 is));
+                            (Puts-whole next (k - 1) ahead first s (IsPut g.rows last.full.items) can.some is_first (nine_put is, four_put is));
                       }
 
                   pub joined_all : {r : ℕ} → GrowsBy ends f g → IsSquareOf g.rows ends r → KeepsOnWay next new c n (Makes next k ahead s) t g last ×

@@ -22,10 +22,9 @@ use Rattle.hash_engine.proofs.Shared.{IsRight-grows, is_put-none, is_put-two, is
 use Rattle.square_table.specs.Made.{AreAmong, IsMade, Adds}
 use Rattle.std.proofs.lemmas.List.{length-map, get_or-map}
 use Rattle.std.proofs.lemmas.List.Elements.{All-nil, All-cons}
-use Rattle.square_table.proofs.Shared.Making.{IsMade-grows}
 use Rattle.hash_life.specs.Result.{middle, later, result}
 use Rattle.hash_life.specs.Makes.{Makes}
-use Rattle.hash_life.proofs.Shared.Made.{Makes-none, Makes-last, Makes-weaker, Makes-result}
+use Rattle.hash_life.proofs.Shared.Made.{Makes-result}
 use Rattle.hash_engine.specs.Standing.{StandsFor, StandForAll}
 use Rattle.hash_engine.specs.Adding.{AddsOf, GivesOf}
 
@@ -39,7 +38,7 @@ IsPut-grows t u full s grows is = record {
 }
 
 -- a number of a square of level k + 2 with a result was one in the table before
-was_number : (next : List ℕ → ℕ) (count : ℕ → ℕ) (t u : Table) (known : List ℕ) (i k : ℕ) → Grows t u →
+pub was_number : (next : List ℕ → ℕ) (count : ℕ → ℕ) (t u : Table) (known : List ℕ) (i k : ℕ) → Grows t u →
     AreKnown next count t.rows known → 0 < get_or known i 0 → IsNumber u.rows (suc (suc k)) (first_number + i) →
     IsNumber t.rows (suc (suc k)) (first_number + i)
 was_number next count t u known i k grows are some number =
@@ -63,6 +62,7 @@ ArePut-grows next count t u full known grows right are i k some number few =
 pub HasPut-grows : (next : List ℕ → ℕ) (t u : Table) (memo : Memo) → Grows t u → IsRightMemo next t.rows memo →
     HasPut next t.rows memo → HasPut next u.rows memo
 HasPut-grows next t u memo grows right has = record {
+  whole = has.whole;
   full = ArePut-grows next (λ k. 2 ^ k) t u memo.full.items memo.full.items grows right.full has.full;
   part = ArePut-grows next (λ k. get_or memo.counts k 0) t u memo.full.items memo.part.items grows right.part has.part;
 }
@@ -123,6 +123,7 @@ module _ (u : Table) {k generations n r : ℕ} {old new : Memo} (number : IsNumb
     Asks-noted {Way} {a} {b} four has listed = record {
       four = four;
       has = record {
+        whole = is.lean ∙ has.whole;
         full = ArePut-noted (λ l. 2 ^ l) _ _ (λ by. (is.full by).others) is.other has.full;
         part =
             subst (λ (cs : List ℕ). ArePut next (λ l. get_or cs l 0) u.rows new.full.items new.part.items) (sym is.counts)
@@ -219,8 +220,7 @@ IsFound-none {next} {Counted} {k} {generations} {n} {r} {t} {u} {memo} none grow
     let s = sought t k n in
     let stands = StandsFor-itself t.rows (suc (suc k)) n numbered in
     let found = subst (StandsFor u.rows (suc k) r) (sym (result-none next k s)) (gives k s stands) in
-    let made = Makes-none next k s (IsMade u.rows) (made_of (StandsFor-grows t u (suc (suc k)) n s grows stands)) (made_of found) in
-    grind (arith, none, found, made, Puts-none next k s (IsPut u.rows memo.full.items))
+    grind (arith, none, found, Puts-none next k s (IsPut u.rows memo.full.items))
 
 -- for a square of 4 by 4 cells it is put to the rule
 pub IsFound-put : (n : ℕ) {next : List ℕ → ℕ} {Counted : Type 0} {generations r : ℕ} {t u : Table} {memo : Memo} → 0 < generations → Grows t u →
@@ -229,18 +229,15 @@ pub IsFound-put : (n : ℕ) {next : List ℕ → ℕ} {Counted : Type 0} {genera
 IsFound-put n {next} {Counted} {generations} {r} {t} {u} {memo} some grows numbered found put =
     let s = sought t 0 n in
     let square = subst (StandsFor u.rows 1 r) (sym (result-later next generations s some)) found in
-    let whole = made_of (StandsFor-grows t u 2 n s grows (StandsFor-itself t.rows 2 n numbered)) in
-    let made = Makes-last next generations s (IsMade u.rows) whole (made_of square) in
-    grind (arith, square, made, Puts-last next generations s (IsPut u.rows memo.full.items), put)
+    grind (arith, square, Puts-last next generations s (IsPut u.rows memo.full.items), put)
 
 -- it is found still in a table that grew, where more is put
 pub IsFound-then : {next : List ℕ → ℕ} {Counted Also : Type 0} {k generations n : ℕ} {s : Square} {u v : Table} {memo more : Memo} →
     Grows u v → (Also → Counted) → (Also → (q : Square) → IsPut u.rows memo.full.items q → IsPut v.rows more.full.items q) →
     IsFound next Counted k generations s u memo n → IsFound next Also k generations s v more n
 IsFound-then {next} {Counted} {Also} {k} {generations} {n} {s} {u} {v} {memo} {more} grows counts kept is =
-    let makes = Makes-weaker next k generations s (IsMade u.rows) (IsMade v.rows) in
     let puts = Puts-weaker next k generations s (IsPut u.rows memo.full.items) (IsPut v.rows more.full.items) in
-    grind (arith, StandsFor-grows u v (suc k) n, IsMade-grows u v, makes, puts)
+    grind (arith, StandsFor-grows u v (suc k) n, puts)
 
 -- and then it was remembered
 pub Keeps-noted : {next new : List ℕ → ℕ} {c d k generations n r : ℕ} {Counted : Type 0} {Way : (Square → Type 0) → Type 0} {t u : Table} {memo old : Memo}
@@ -267,18 +264,16 @@ module _ {rows : List (List ℕ)} {level : ℕ} {numbers : List ℕ} {ss : List 
   pub by_number : All P ss → All (λ n. P (square_in rows level n)) numbers
   by_number holds i d below = grind (arith, are.each i d (one 0), holds i (one 0))
 
-  by_square : ((j d : ℕ) → j < length numbers → P (square_in rows level (get_or numbers j d))) → All P ss
+  pub by_square : ((j d : ℕ) → j < length numbers → P (square_in rows level (get_or numbers j d))) → All P ss
   by_square holds i e below = grind (arith, are.each i 0 e, holds i 0)
 
--- so all is there that is found for these
+-- so what is put on the ways to these was put
 pub by_found : (t : Table) (found : List ℕ) {next : List ℕ → ℕ} {Counted : Type 0} {l m : ℕ} {numbers : List ℕ} {ss : List Square} {u : Table} {memo : Memo} →
     StandForAll t.rows (suc (suc l)) numbers ss →
     ((j d : ℕ) → j < length numbers → IsFound next Counted l m (sought t l (get_or numbers j d)) u memo (get_or found j d)) →
-    All (λ q. Makes next l m q (IsMade u.rows)) ss × (Counted → All (λ q. Puts next l m q (IsPut u.rows memo.full.items)) ss)
-by_found t found {next} {Counted} {l} {m} {numbers} {ss} {u} {memo} are each = (
-  by_square are (λ q. Makes next l m q (IsMade u.rows)) (λ j d below. (each j d below).made),
-  λ is. by_square are (λ q. Puts next l m q (IsPut u.rows memo.full.items)) (λ j d below. (each j d below).put is),
-)
+    Counted → All (λ q. Puts next l m q (IsPut u.rows memo.full.items)) ss
+by_found t found {next} {Counted} {l} {m} {numbers} {ss} {u} {memo} are each is =
+    by_square are (λ q. Puts next l m q (IsPut u.rows memo.full.items)) (λ j d below. (each j d below).put is)
 
 -- above level 2 it is remembered
 module _ {next : List ℕ → ℕ} {k generations n r : ℕ} {t u : Table} {old mid new : Memo} (high : 0 < k) (grows : Grows t u)

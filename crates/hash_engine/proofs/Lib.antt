@@ -2,5 +2,7 @@ pub mod Standing
 pub mod Picked
 pub mod Shared
 pub mod Finding
+pub mod Making
 pub mod Computing
+pub mod ByBlocks
 pub mod Blocks

@@ -1,11 +1,10 @@
 -- What other crates may cite: what is remembered stays right, and which squares were put to the rule.
 use Rattle.std.proofs.Common.{◌≡◌, ℕ, suc, ◌+◌, ◌-◌, ◌<◌, ◌≤◌, ◌^◌, List, get_or, arith, zero, length, length-append, ◌∙◌, ap}
 use Rattle.square_table.specs.Squares.{Table, IsNumber, first_number, Grows}
-use Rattle.square_table.proofs.Shared.Growth.{IsNumber-grows, square_in-grows}
-use Rattle.square_table.proofs.Shared.Making.{IsMade-grows}
+use Rattle.square_table.proofs.Shared.Growth.{IsNumber-grows, square_in-grows, AreNumbers-grows, square_of-grows}
 use Rattle.square_table.proofs.Shared.Numbers.{one_level}
-use Rattle.hash_life.proofs.Shared.Made.{Makes-weaker}
 use Rattle.hash_engine.specs.Memo.{IsResult, AreKnown, IsRightMemo, IsRemembered}
+use Rattle.hash_engine.specs.Blocks.{IsLaterOf}
 use Rattle.hash_engine.specs.declared.memo.Memo.{Memo}
 use Rattle.hash_engine.proofs.Standing.{StandsFor-grows, within}
 use Rattle.std.specs.Prelude.{◌≢◌, true, false}
@@ -17,15 +16,20 @@ use Rattle.hash_engine.proofs.Picked.{picked-same, picked-none}
 IsResult-grows : (next : List ℕ → ℕ) (t u : Table) (k generations n r : ℕ) → Grows t u → IsResult next t.rows k generations n r → IsResult next u.rows k generations n r
 IsResult-grows next t u k generations n r grows is =
     let same = square_in-grows t u (suc (suc k)) n grows in
-    grind (arith, same, IsNumber-grows t u (suc (suc k)) n grows, StandsFor-grows t u (suc k) r, Makes-weaker next k generations, IsMade-grows t u)
+    grind (arith, same, IsNumber-grows t u (suc (suc k)) n grows, StandsFor-grows t u (suc k) r)
 
 AreKnown-grows : (next : List ℕ → ℕ) (count : ℕ → ℕ) (t u : Table) (known : List ℕ) → Grows t u → AreKnown next count t.rows known → AreKnown next count u.rows known
 AreKnown-grows next count t u known grows are = record { right = λ i some. let h = are.right i some in (h.0, IsResult-grows next t u h.0 (count h.0) _ _ grows h.1) }
 
+IsLaterOf-grows : (next : List ℕ → ℕ) (t u : Table) (quadrants : List ℕ) (r : ℕ) → Grows t u → IsLaterOf next t.rows quadrants r → IsLaterOf next u.rows quadrants r
+IsLaterOf-grows next t u quadrants r grows is =
+    grind (arith, AreNumbers-grows t u 1 quadrants grows is.numbered, square_of-grows t u 1 quadrants grows is.numbered, StandsFor-grows t u 1 r)
+
 pub IsRight-grows : (next : List ℕ → ℕ) (t u : Table) (memo : Memo) → Grows t u → IsRightMemo next t.rows memo → IsRightMemo next u.rows memo
 IsRight-grows next t u memo grows right =
     let full = AreKnown-grows next (λ k. 2 ^ k) t u memo.full.items grows right.full in
-    record { full = full; part = AreKnown-grows next (λ k. get_or memo.counts k 0) t u memo.part.items grows right.part }
+    let part = AreKnown-grows next (λ k. get_or memo.counts k 0) t u memo.part.items grows right.part in
+    record { full = full; part = part; blocks = record { each = λ i some. IsLaterOf-grows next t u _ _ grows (right.blocks.each i some) } }
 
 -- what stands at a square's place is its result
 pub recalled : (next : List ℕ → ℕ) (count : ℕ → ℕ) (rows : List (List ℕ)) (known : List ℕ) (k generations n r : ℕ) → generations ≡ count k → first_number ≤ n → 0 < r →

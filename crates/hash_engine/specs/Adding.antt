@@ -1,10 +1,11 @@
 -- Squares that are added to a table on the way to results.
-use Rattle.std.specs.Prelude.{ℕ, suc, ◌-◌, List, Contains}
+use Rattle.std.specs.Prelude.{ℕ, suc, ◌-◌, ◌≡◌, List, [], ◌∷◌, get_or, map, Contains}
 use Rattle.worlds.specs.Square as squares
+use Rattle.worlds.specs.Square.{one, four}
 use Rattle.square_table.specs.declared.square.Square.{Square}
-use Rattle.square_table.specs.Squares.{Table, square_in, Grows, level_of, cells_of}
+use Rattle.square_table.specs.Squares.{Table, AreNumbers, square_in, square_of, Grows, level_of, cells_of}
 use Rattle.square_table.specs.Made.{AreAmong, Adds}
-use Rattle.hash_life.specs.Result.{later}
+use Rattle.hash_life.specs.Result.{middle, later}
 use Rattle.hash_life.specs.Puts.{fours_of}
 use Rattle.hash_life.specs.Makes.{Makes}
 use Rattle.hash_engine.specs.Standing.{StandsFor, StandForAll}
@@ -23,6 +24,48 @@ abbrev pub GivesOf : (squares.Square → squares.Square) → Table → ℕ → T
 GivesOf f t n u = λ r.
     (k : ℕ) (s : squares.Square) → StandsFor t.rows (suc (suc k)) n s →
     StandsFor u.rows (suc k) r (f s)
+
+-- whatever squares these are the quadrants of, r stands for its middle
+abbrev pub GivesMiddle : Table → List ℕ → Table → ℕ → Type 0
+GivesMiddle t quadrants u = λ r. (k : ℕ) → AreNumbers t.rows (suc k) quadrants →
+    StandsFor u.rows (suc k) r (middle (square_of t.rows (suc k) quadrants))
+
+-- and the table has no square more but that
+abbrev pub AddsMiddle : Table → List ℕ → Table → Type 0
+AddsMiddle t quadrants u = (k : ℕ) → AreNumbers t.rows (suc k) quadrants →
+    Adds (middle (square_of t.rows (suc k) quadrants) ∷ []) t u
+
+-- whatever squares nine stand for, these are by their quadrants the middles of the four that overlap
+-- in them
+pub record AreMiddlesAt (t : Table) (k : ℕ) (ss : List squares.Square) (all : List (List ℕ))
+    : Type 0 where
+  pub nw : AreNumbers t.rows k (get_or all 0 [])
+  pub ne : AreNumbers t.rows k (get_or all 1 [])
+  pub sw : AreNumbers t.rows k (get_or all 2 [])
+  pub se : AreNumbers t.rows k (get_or all 3 [])
+  pub are : map middle (fours_of ss) ≡ square_of t.rows k (get_or all 0 [])
+      ∷ square_of t.rows k (get_or all 1 []) ∷ square_of t.rows k (get_or all 2 [])
+      ∷ square_of t.rows k (get_or all 3 []) ∷ []
+
+abbrev pub AreMiddles : Table → List ℕ → List (List ℕ) → Type 0
+AreMiddles t nine all = (k : ℕ) (ss : List squares.Square) → StandForAll t.rows (suc k) nine ss →
+    AreMiddlesAt t k ss all
+
+-- the square of four
+abbrev pub square_of_four : List squares.Square → squares.Square
+square_of_four (a ∷ b ∷ c ∷ d ∷ []) = four a b c d
+square_of_four other = one 0
+
+-- whatever squares nine stand for, r stands for that of these middles
+abbrev pub GivesMiddles : Table → List ℕ → Table → ℕ → Type 0
+GivesMiddles t nine u = λ r. (k : ℕ) (ss : List squares.Square) →
+    StandForAll t.rows (suc k) nine ss →
+    StandsFor u.rows (suc (suc k)) r (square_of_four (map middle (fours_of ss)))
+
+-- and the table has no square more but the middles and it
+abbrev pub AddsMiddles : Table → List ℕ → Table → Type 0
+AddsMiddles t nine u = (k : ℕ) (ss : List squares.Square) → StandForAll t.rows (suc k) nine ss →
+    Adds (square_of_four (map middle (fours_of ss)) ∷ map middle (fours_of ss)) t u
 
 -- whatever square of 4 by 4 cells or more n stands for, these stand for those of f
 abbrev pub GiveAllOf : (squares.Square → List squares.Square) →

@@ -1,5 +1,6 @@
 pub mod Standing
 pub mod Adding
+pub mod Blocks
 pub mod Memo
 pub mod Found
 pub mod Asked

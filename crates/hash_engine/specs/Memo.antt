@@ -1,5 +1,5 @@
 -- What is remembered.
-use Rattle.std.specs.Prelude.{◌≡◌, ◌≢◌, ℕ, suc, ◌+◌, ◌-◌, ◌^◌, ◌<◌, ◌≤◌, List, [], get_or}
+use Rattle.std.specs.Prelude.{◌≡◌, ◌≢◌, ℕ, suc, ◌+◌, ◌-◌, ◌^◌, ◌<◌, ◌≤◌, List, [], get_or, false}
 use Rattle.worlds.specs.Square.{Square}
 use Rattle.square_table.specs.Squares.{IsNumber, square_in, first_number}
 use Rattle.square_table.specs.Made.{IsMade}
@@ -7,15 +7,16 @@ use Rattle.hash_life.specs.Result.{result}
 use Rattle.hash_life.specs.Puts.{Puts}
 use Rattle.hash_life.specs.Makes.{Makes}
 use Rattle.hash_engine.specs.Standing.{StandsFor}
+use Rattle.hash_engine.specs.Blocks.{IsLaterOf, IsKnownBlock, AreKnownBlocks}
+use Rattle.hash_engine.specs.declared.block.Block.{Block}
 use Rattle.hash_engine.specs.declared.memo.Memo.{Memo}
 
 -- r is the number of the result, so many generations later, of the square of level k + 2 with the
--- number n, and all that is made on the way to it is there
+-- number n
 pub record IsResult (next : List ℕ → ℕ) (rows : List (List ℕ)) (k generations n r : ℕ)
     : Type 0 where
   pub numbered : IsNumber rows (suc (suc k)) n
   pub result : StandsFor rows (suc k) r (result next k generations (square_in rows (suc (suc k)) n))
-  pub made : Makes next k generations (square_in rows (suc (suc k)) n) (IsMade rows)
 
 -- results by the places of their squares, 0 where none is known; the level decides how many
 -- generations later each is
@@ -28,6 +29,7 @@ pub record AreKnown (next : List ℕ → ℕ) (count : ℕ → ℕ) (rows : List
 pub record IsRightMemo (next : List ℕ → ℕ) (rows : List (List ℕ)) (memo : Memo) : Type 0 where
   pub full : AreKnown next (λ k. 2 ^ k) rows memo.full.items
   pub part : AreKnown next (λ k. get_or memo.counts k 0) rows memo.part.items
+  pub blocks : AreKnownBlocks next rows memo.blocks.list.items
 
 -- the square is one of 4 by 4 cells that was put to the rule: its result by the full count is known
 pub record IsPut (rows : List (List ℕ)) (full : List ℕ) (s : Square) : Type 0 where
@@ -43,10 +45,23 @@ ArePut next count rows full known = (i k : ℕ) → 0 < get_or known i 0 →
     IsNumber rows (suc (suc k)) (first_number + i) → count k ≤ 2 ^ k →
     Puts next k (count k) (square_in rows (suc (suc k)) (first_number + i)) (IsPut rows full)
 
--- so it was on the ways to all results that are remembered
+-- so it was on the ways to all results that are remembered, and a search goes on so
 pub record HasPut (next : List ℕ → ℕ) (rows : List (List ℕ)) (memo : Memo) : Type 0 where
+  pub whole : memo.is_lean ≡ false
   pub full : ArePut next (λ k. 2 ^ k) rows memo.full.items memo.full.items
   pub part : ArePut next (λ k. get_or memo.counts k 0) rows memo.full.items memo.part.items
+
+-- all that HashLife makes on the ways to these results is there
+abbrev pub AreMade : (List ℕ → ℕ) → (ℕ → ℕ) → List (List ℕ) → List ℕ → Type 0
+AreMade next count rows known = (i k : ℕ) → 0 < get_or known i 0 →
+    IsNumber rows (suc (suc k)) (first_number + i) →
+    Makes next k (count k) (square_in rows (suc (suc k)) (first_number + i)) (IsMade rows)
+
+-- so it is on the ways to all results that are remembered, and a search makes them all
+pub record HasMade (next : List ℕ → ℕ) (rows : List (List ℕ)) (memo : Memo) : Type 0 where
+  pub whole : memo.is_lean ≡ false
+  pub full : AreMade next (λ k. 2 ^ k) rows memo.full.items
+  pub part : AreMade next (λ k. get_or memo.counts k 0) rows memo.part.items
 
 -- no result by a full count is remembered
 abbrev pub HasNoFull : Memo → Type 0
@@ -74,6 +89,8 @@ pub record IsRemembered (k generations n r : ℕ) (old new : Memo) : Type 0 wher
   pub part : generations ≡ get_or old.counts k 0 → (j : ℕ) → j ≢ n - first_number →
       get_or new.part.items j 0 ≡ get_or old.part.items j 0
   pub rest : generations ≢ get_or old.counts k 0 → new.part.items ≡ old.part.items
+  pub blocks : new.blocks ≡ old.blocks
+  pub lean : new.is_lean ≡ old.is_lean
 
 -- r is the result of the square with the number n, if what is remembered is right
 abbrev pub RecallsResult : Memo → ℕ → ℕ → ℕ → ℕ → Type 0
@@ -86,6 +103,22 @@ abbrev pub RecallsPut : Memo → ℕ → ℕ → ℕ → Type 0
 RecallsPut memo k generations n = (next : List ℕ → ℕ) (rows : List (List ℕ)) →
     HasPut next rows memo → IsNumber rows (suc (suc k)) n → generations ≤ 2 ^ k →
     Puts next k generations (square_in rows (suc (suc k)) n) (IsPut rows memo.full.items)
+
+-- what is made on the way to the result is there, if that holds of all that is remembered
+abbrev pub RecallsMade : Memo → ℕ → ℕ → ℕ → Type 0
+RecallsMade memo k generations n = (next : List ℕ → ℕ) (rows : List (List ℕ)) →
+    HasMade next rows memo → IsNumber rows (suc (suc k)) n →
+    Makes next k generations (square_in rows (suc (suc k)) n) (IsMade rows)
+
+-- r is the result of the block one generation later, if what is remembered is right
+abbrev pub RecallsBlock : Memo → List ℕ → ℕ → Type 0
+RecallsBlock memo quadrants = λ r. (next : List ℕ → ℕ) (rows : List (List ℕ)) →
+    IsRightMemo next rows memo → IsLaterOf next rows quadrants r
+
+-- what is remembered stays right with the result of this block, if that is one
+abbrev pub StaysRightWith : Block → Memo → Memo → Type 0
+StaysRightWith b old new = (next : List ℕ → ℕ) (rows : List (List ℕ)) →
+    IsRightMemo next rows old → IsKnownBlock next rows b → IsRightMemo next rows new
 
 -- what is remembered stays right with this result, if that is one
 abbrev pub StaysRight : ℕ → ℕ → ℕ → ℕ → Memo → Memo → Type 0
@@ -101,3 +134,8 @@ StaysRightFor old new = (next : List ℕ → ℕ) (rows : List (List ℕ)) →
 abbrev pub StaysPutFor : Memo → Memo → Type 0
 StaysPutFor old new = (next : List ℕ → ℕ) (rows : List (List ℕ)) →
     HasPut next rows old → HasPut next rows new
+
+-- if what is made on the ways to all that is remembered was there, it still is
+abbrev pub StaysMadeFor : Memo → Memo → Type 0
+StaysMadeFor old new = (next : List ℕ → ℕ) (rows : List (List ℕ)) →
+    HasMade next rows old → HasMade next rows new

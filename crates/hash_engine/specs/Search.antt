@@ -7,7 +7,9 @@ use Rattle.hash_life.specs.Result.{result}
 use Rattle.hash_life.specs.Puts.{Puts}
 use Rattle.hash_life.specs.Makes.{Makes}
 use Rattle.hash_engine.specs.Standing.{StandsFor, IsReady}
-use Rattle.hash_engine.specs.Memo.{IsRightMemo, IsAnew, IsPut, HasPut}
+use Rattle.hash_engine.specs.Memo.{IsRightMemo, IsAnew, IsPut, HasPut, HasMade}
+use Rattle.hash_engine.specs.Blocks.{later_of, IsReadyBlock}
+use Rattle.hash_engine.specs.declared.block.Block.{Block}
 use Rattle.hash_engine.specs.Asked.{places_put, PutsOnly}
 use Rattle.hash_engine.specs.Found.{IsSameRule}
 use Rattle.hash_engine.specs.declared.memo.Memo.{Memo}
@@ -80,12 +82,11 @@ pub record IsCounted (next : List ℕ → ℕ) (k generations : ℕ) (t : Table)
   pub few : generations ≤ 2 ^ k
   pub has : HasPut next t.rows memo
 
--- n is the number of the result of the square s of level k + 2, all that is made on the way to it
--- is there, and what is put to the rule on it was put, where that is counted
+-- n is the number of the result of the square s of level k + 2, and what is put to the rule on the
+-- way to it was put, where that is counted
 pub record IsFound (next : List ℕ → ℕ) (Counted : Type 0) (k generations : ℕ) (s : Square)
     (u : Table) (memo : Memo) (n : ℕ) : Type 0 where
   pub square : StandsFor u.rows (suc k) n (result next k generations s)
-  pub made : Makes next k generations s (IsMade u.rows)
   pub put : Counted → Puts next k generations s (IsPut u.rows memo.full.items)
 
 -- so each of the first many of these is of one of those
@@ -132,3 +133,51 @@ AsksForAll meaning asks k generations numbers old t memo new u new_memo =
     IsCounted (meaning old) k generations t memo →
     Asks (meaning old) (PutsAll (meaning old) k generations numbers t)
     t memo (asks old) u new_memo (asks new)
+
+-- what is made in it: where all was there that is made on the ways to what was remembered, it is
+-- still, and so is what is made on the way to this
+abbrev pub MakesFor : (List ℕ → ℕ) → ℕ → ℕ → ℕ → Table → Memo → Table → Memo → Type 0
+MakesFor next k generations number t old u new = HasMade next t.rows old →
+    HasMade next u.rows new × Makes next k generations (sought t k number) (IsMade u.rows)
+
+abbrev pub MakesForAll : (List ℕ → ℕ) → ℕ → ℕ → List ℕ → Table → Memo → Table → Memo → Type 0
+MakesForAll next k generations numbers t old u new = HasMade next t.rows old →
+    HasMade next u.rows new × MakesAll next k generations numbers t (IsMade u.rows)
+
+-- the result of the block with these quadrants can be sought
+pub record CanSeekBlock (next : List ℕ → ℕ) (state_count : ℕ) (t : Table) (memo : Memo)
+    (generations : ℕ) (quadrants : List ℕ) : Type 0 where
+  pub ready : IsReadyBlock next state_count t.rows generations quadrants
+  pub right : IsRightMemo next t.rows memo
+
+-- those of these blocks can
+pub record CanSeekBlocks (next : List ℕ → ℕ) (state_count : ℕ) (t : Table) (memo : Memo)
+    (generations : ℕ) (blocks : List Block) : Type 0 where
+  pub ready : All (λ b. IsReadyBlock next state_count t.rows generations b.quadrants) blocks
+  pub right : IsRightMemo next t.rows memo
+
+-- what is kept in the search for the result of a block, which alone is made, and in that for several
+abbrev pub KeepsForBlock : {R : Type 0} → (R → List ℕ → ℕ) → (R → ℕ) → R → R → ℕ → List ℕ →
+    Table → Table → Memo → Type 0
+KeepsForBlock meaning states old new generations quadrants t u memo =
+    KeepsOnWay (meaning old) (meaning new) (states old) (states new)
+    (λ P. P (later_of (meaning old) generations t quadrants)) t u memo
+
+abbrev pub KeepsForBlocks : {R : Type 0} → (R → List ℕ → ℕ) → (R → ℕ) → R → R → ℕ → List Block →
+    Table → Table → Memo → Type 0
+KeepsForBlocks meaning states old new generations blocks t u memo =
+    KeepsOnWay (meaning old) (meaning new) (states old) (states new)
+    (λ P. All (λ b. P (later_of (meaning old) generations t b.quadrants)) blocks) t u memo
+
+-- r is the number of the result of the block with these quadrants
+abbrev pub FindsBlock : (List ℕ → ℕ) → ℕ → List ℕ → Table → Table → ℕ → Type 0
+FindsBlock next generations quadrants t u = λ r.
+    StandsFor u.rows 1 r (later_of next generations t quadrants)
+
+-- the first many of the blocks have their results, and all the quadrants that they had
+pub record FirstHaveResults (next : List ℕ → ℕ) (generations many : ℕ) (olds news : List Block)
+    (t u : Table) : Type 0 where
+  pub count : length news ≡ length olds
+  pub same : (j : ℕ) (d : Block) → (get_or news j d).quadrants ≡ (get_or olds j d).quadrants
+  pub found : (j : ℕ) (d : Block) → j < many →
+      FindsBlock next generations (get_or olds j d).quadrants t u (get_or news j d).result

@@ -5,9 +5,10 @@ ghost use Rattle.square_table.specs.Made.{IsFull};
 ghost use Rattle.hash_engine.specs.Adding.{GrowsOnWay};
 ghost use Rattle.hash_engine.specs.Found.{KeepsRule, CanBeAsked, CanSearch, IsEnd, IsLater, Finds, AsksOnceFor};
 ghost use Rattle.hash_engine.specs.Memo.{IsRightMemo};
-ghost use Rattle.hash_engine.specs.Search.{CanSeek, CanSeekAll, CanCompute, CanPut, KeepsFor, KeepsForAll, FindsFor, FindsForAll, AsksFor, AsksForAll};
+ghost use Rattle.hash_engine.specs.Search.{CanSeek, CanSeekAll, CanCompute, CanPut, KeepsFor, KeepsForAll, FindsFor, FindsForAll, AsksFor, AsksForAll, MakesFor, MakesForAll};
 
 use crate::counts::count_squares;
+use crate::eight::eight;
 use crate::fault::ResultFault;
 use crate::memo::{Memo, full};
 use crate::parts;
@@ -44,6 +45,8 @@ fn put<Q: Ask>(
         table.old memo.old table.new memo.new) }
     ensures asks { OnOk result (AsksFor Q.meaning Q.asks 0 ahead number
         rule.old table.old memo.old rule.new table.new memo.new) }
+    ensures made { OnOk result (MakesFor (Q.meaning rule.old) 0 ahead number
+        table.old memo.old table.new memo.new) }
     ensures full { result ≡ Err TableFault.NoRoom → IsFull table.new }
 {
     let made = parts::later(table, rule, number)?;
@@ -74,6 +77,8 @@ fn forward<Q: Ask, S: Stop>(
         table.old memo.old table.new memo.new) }
     ensures asks { OnOk result (AsksFor Q.meaning Q.asks k ahead number
         rule.old table.old memo.old rule.new table.new memo.new) }
+    ensures made { OnOk result (MakesFor (Q.meaning rule.old) k ahead number
+        table.old memo.old table.new memo.new) }
 {
     if ahead == 0 {
         return Ok(parts::middle(table, number)?);
@@ -113,10 +118,19 @@ fn compute<Q: Ask, S: Stop>(
         table.old memo.old table.new memo.new) }
     ensures asks { OnOk result (AsksFor Q.meaning Q.asks k ahead number
         rule.old table.old memo.old rule.new table.new memo.new) }
+    ensures made { OnOk result (MakesFor (Q.meaning rule.old) k ahead number
+        table.old memo.old table.new memo.new) }
 {
+    let is_lean = memo.is_lean();
+    if is_lean && k == 1 {
+        return Ok(eight(table, memo, rule, ahead, number)?);
+    }
     let first = ahead.min(full(k - 1));
     let mut nine = parts::nine(table, number)?;
     all_forward(table, memo, rule, stop, k - 1, first, &mut nine)?;
+    if is_lean && first == ahead {
+        return Ok(parts::join_middles(table, nine)?);
+    }
     let mut fours = parts::fours(table, nine)?;
     all_forward(table, memo, rule, stop, k - 1, ahead - first, &mut fours)?;
     Ok(table.join_numbers(fours)?)
@@ -144,6 +158,8 @@ fn all_forward<Q: Ask, S: Stop>(
         table.old memo.old table.new memo.new numbers.new) }
     ensures asks { OnOk result (AsksForAll Q.meaning Q.asks k ahead numbers.old
         rule.old table.old memo.old rule.new table.new memo.new) }
+    ensures made { OnOk result (MakesForAll (Q.meaning rule.old) k ahead numbers.old
+        table.old memo.old table.new memo.new) }
 {
     for number in numbers.iter_mut() {
         *number = forward(table, memo, rule, stop, k, ahead, *number)?;
@@ -154,7 +170,8 @@ fn all_forward<Q: Ask, S: Stop>(
 /// The result of a square of level k + 2, as `result` finds it, by what is remembered of the
 /// table's squares under the rule.
 ///
-/// What is found on the way is remembered, also where the search is refused or stopped.
+/// What is found on the way is remembered, also where the search is refused or stopped. From then on
+/// no square is made that isn't needed for what is found.
 pub fn search<'a, Q: Ask, S: Stop>(
     table: &mut SquareTable<'a>,
     memo: &mut Memo,
@@ -172,6 +189,7 @@ pub fn search<'a, Q: Ask, S: Stop>(
     ensures end { IsEnd table.new (S.yes_count stop.old) (S.yes_count stop.new) result }
 {
     memo.turn_to(generations);
+    memo.turn_lean();
     let k = root.level() - 2;
     let number = forward(table, memo, rule, stop, k, generations, root.number())?;
     Ok(table.square(k + 1, number)?)

@@ -7,10 +7,16 @@
 //! call a level is asked for two counts of generations at most, the full 2^k and one other, so that
 //! two lists by the squares' numbers remember all: 8 bytes a square. The rule is asked at level 2
 //! alone, four times for each distinct square of 4 by 4 cells that is put to it.
+//!
+//! `search`, which goes on from what earlier calls found, makes no square that it doesn't need: blocks
+//! of 4 by 4 cells between those of a square of 8 by 8 are known by their quadrants alone, and where no
+//! generation is left the middles of four squares are joined without these.
 #![tactic(auto)]
 
 mod asking;
+mod block;
 mod counts;
+mod eight;
 mod fault;
 mod later;
 mod memo;

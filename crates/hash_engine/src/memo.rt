@@ -2,8 +2,9 @@
 
 ghost use Rattle.std.specs.Prelude.{◌≡◌, ◌+◌, ◌-◌, ◌^◌, ◌<◌, ◌≤◌, ℕ, List, get_or, nat_lt, IfSome, IfNone, OnOk, OnErr};
 ghost use Rattle.square_table.specs.Squares.{first_number};
-ghost use Rattle.hash_engine.specs.Memo.{IsRightMemo, IsNoted, IsRemembered, HasNoFull, HasPut, RecallsResult, RecallsPut, StaysRight, StaysRightFor, StaysPutFor};
+ghost use Rattle.hash_engine.specs.Memo.{IsRightMemo, IsNoted, IsRemembered, HasNoFull, HasPut, HasMade, RecallsResult, RecallsPut, RecallsMade, RecallsBlock, StaysRight, StaysRightWith, StaysRightFor, StaysPutFor, StaysMadeFor};
 
+use crate::block::{Block, Blocks};
 use std::alloc::{AllocError, Global};
 
 // Below it numbers are those of cells.
@@ -24,6 +25,10 @@ pub struct Memo {
     // By the numbers of the squares, 0 where none is known.
     full: Vec<u32>,
     part: Vec<u32>,
+    // Whether a search makes no square that it doesn't need, and the results of blocks that aren't
+    // squares of the table then.
+    is_lean: bool,
+    blocks: Blocks,
     // The other count, by k, and the generations that decide it.
     counts: [u64; 62],
     generations: u64,
@@ -81,10 +86,13 @@ impl Memo {
         ensures right { (next : List ℕ → ℕ) (rows : List (List ℕ)) → IsRightMemo next rows result }
         ensures none { HasNoFull result }
         ensures put { (next : List ℕ → ℕ) (rows : List (List ℕ)) → HasPut next rows result }
+        ensures made { (next : List ℕ → ℕ) (rows : List (List ℕ)) → HasMade next rows result }
     {
         Memo {
             full: Vec::new(alloc),
             part: Vec::new(alloc),
+            is_lean: false,
+            blocks: Blocks::nothing(alloc),
             counts: [0; 62],
             generations: 0,
         }
@@ -96,6 +104,35 @@ impl Memo {
     {
         Vec::clear(&mut self.full);
         Vec::clear(&mut self.part);
+        self.blocks.clear();
+    }
+
+    /// From now on a search makes no square that it doesn't need.
+    pub(crate) fn turn_lean(&mut self)
+        ensures { StaysRightFor self.old self.new }
+    {
+        self.is_lean = true;
+    }
+
+    /// Whether a search makes no square that it doesn't need.
+    pub(crate) fn is_lean(&self) -> bool
+        ensures { result ≡ self.now.is_lean }
+    {
+        self.is_lean
+    }
+
+    /// The result of a block one generation later, where it is known.
+    pub(crate) fn recall_block(&self, quadrants: &[u32; 4]) -> Option<u32>
+        ensures { IfSome result (RecallsBlock self.now quadrants.now) }
+    {
+        self.blocks.recall(quadrants)
+    }
+
+    /// Remembers it.
+    pub(crate) fn keep_block(&mut self, block: Block)
+        ensures { StaysRightWith block self.old self.new }
+    {
+        self.blocks.keep(block);
     }
 
     /// Makes it ready for a search by so many generations. Results by the other counts are given up
@@ -103,6 +140,7 @@ impl Memo {
     pub(crate) fn turn_to(&mut self, generations: u64)
         ensures right { StaysRightFor self.old self.new }
         ensures put { StaysPutFor self.old self.new }
+        ensures made { StaysMadeFor self.old self.new }
         ensures full { self.new.full.items ≡ self.old.full.items }
     {
         if generations == self.generations {
@@ -119,6 +157,7 @@ impl Memo {
         requires number { first_number ≤ number }
         ensures some { IfSome result (RecallsResult self.now k generations number) }
         ensures put { IfSome result (λ _. RecallsPut self.now k generations number) }
+        ensures made { IfSome result (λ _. RecallsMade self.now k generations number) }
         ensures none { IfNone result (generations ≡ 2 ^ k →
             get_or self.now.full.items (number - first_number) 0 ≡ 0) }
     {

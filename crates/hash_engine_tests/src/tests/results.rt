@@ -2,7 +2,7 @@ use super::rules::Life;
 use super::same;
 use super::squares::{Place, is_below, is_number, square_of};
 use bumpalo::Bump;
-use hash_engine::{Asking, result};
+use hash_engine::{Asking, Memo, result, search};
 use square_table::SquareTable;
 use std::alloc::Global;
 use std::process::Abort;
@@ -54,11 +54,55 @@ fn expect_later(
     same(rt, &found.square.level(), &4, &generations);
 }
 
+/// The same where no square is made that isn't needed.
+fn expect_sought(
+    rt: &impl Abort,
+    alloc: Global,
+    cells: &[Place],
+    generations: u64,
+    wanted: &[Place],
+) {
+    let arena = Bump::new(alloc);
+    let mut table = SquareTable::new(alloc, &arena, 100_000).expect(rt, "memory");
+    let number = square_of(&mut table, 5, 0, 0, cells).expect(rt, "room");
+    let later = square_of(&mut table, 4, 8, 8, wanted).expect(rt, "room");
+    assert!(rt; is_number(&table, 5, number));
+    assert!(rt; is_below(&table, 5, number, 2));
+    let root = table.square(5, number).expect(rt, "memory");
+    let mut memo = Memo::nothing(alloc);
+    let mut rule = Asking::new(&Life);
+    let found = search(
+        &mut table,
+        &mut memo,
+        &mut rule,
+        root,
+        generations,
+        &mut NoStop,
+    );
+    let found = found.expect(rt, "room");
+    same(rt, &found.number(), &later, &generations);
+    same(rt, &found.level(), &4, &generations);
+}
+
 #[test]
 fn a_glider_glides(rt: HostRuntime) {
     let alloc = rt.alloc();
     for generations in 0..9usize {
         expect_later(
+            &rt,
+            alloc,
+            &GLIDER[0],
+            generations as u64,
+            &GLIDER[generations],
+        );
+    }
+}
+
+#[test]
+fn a_glider_is_sought(rt: HostRuntime) {
+    let alloc = rt.alloc();
+    for generations in 0..9usize {
+        expect_sought(
             &rt,
             alloc,
             &GLIDER[0],

@@ -1,7 +1,8 @@
-use Rattle.std.proofs.Common.{◌<◌, suc, ◌∙◌, arith, rules}
+use Rattle.std.proofs.Common.{◌<◌, ◌∙◌, arith, rules}
 use Rattle.hash_engine.proofs.Standing.{above}
 use Rattle.hash_engine.proofs.Finding.{Keeps-middle, Keeps-noted, IsFound-none, found_still, asks_still, Asks-grown}
-use Rattle.hash_engine.proofs.Computing.{AreDone-all, turn_can, turn_keeps, turn_asks, turn_done, nine_keeps, nine_can, first_keeps, fours_keeps, fours_can, last_keeps, joined_keeps, joined_all}
+use Rattle.hash_engine.proofs.Making.{MakesFor-none, MakesFor-noted}
+use Rattle.hash_engine.proofs.Computing.{AreDone-all, FirstAreMade-all, turn_made, joined_made, middles_can, middles_found, middles_keeps, turn_can, turn_keeps, turn_asks, turn_done, nine_keeps, nine_can, first_keeps, fours_keeps, fours_can, last_keeps, joined_keeps, joined_all}
 use Rattle.hash_engine.proofs.later.+forward.Goals as goal
 
 pub all_forward-forward-requires : goal.all_forward-forward-requires
@@ -15,6 +16,7 @@ all_forward-loop-number-preserved g t c =
     record {
       keeps = turn_keeps c.requires below was.keeps was.done now.keeps;
       went_on = now.end.stop.went_on (λ e. search rules) ∙ was.went_on;
+      made = turn_made c.requires below was.keeps was.done now.keeps was.made now.made;
       done = turn_done c.requires below was.keeps was.done now.keeps was.asks now.asks now.found;
       asks = turn_asks c.requires below was.keeps was.done now.keeps was.asks now.asks;
     }
@@ -25,6 +27,10 @@ all_forward-returns-in_err-number-clause-keeps g t c = search (rules, turn_keeps
 pub all_forward-returns-clause-found : goal.all_forward-returns-clause-found
 all_forward-returns-clause-found g t c = search (rules, AreDone-all)
 
+pub all_forward-returns-clause-made : goal.all_forward-returns-clause-made
+all_forward-returns-clause-made g t c =
+    FirstAreMade-all (g.Q.Ask.meaning c.args.rule.now) c.args.k c.args.ahead c.args.numbers.now c.args.table.now c.loop-number.table c.loop-number.invariant.made (search rules)
+
 pub compute-returns-in_err-nine-clause-keeps : goal.compute-returns-in_err-nine-clause-keeps
 compute-returns-in_err-nine-clause-keeps g t c = search (rules, nine_keeps)
 
@@ -33,6 +39,28 @@ compute-all_forward-requires g t c κs within = let can = nine_can c.requires c.
 
 pub compute-returns-in_err-all_forward-clause-keeps : goal.compute-returns-in_err-all_forward-clause-keeps
 compute-returns-in_err-all_forward-clause-keeps g t c = first_keeps c.requires c.min-first.ensures c.full.ensures c.in_ok-nine.ensures.adds c.in_ok-nine.ensures.squares c.all_forward.ensures.keeps
+
+pub compute-join_middles-requires : goal.compute-join_middles-requires
+compute-join_middles-requires g t c =
+    middles_can c.requires c.min-first.ensures c.full.ensures c.in_ok-nine.ensures.adds c.in_ok-nine.ensures.squares c.in_ok-all_forward.ensures.keeps c.in_ok-all_forward.ensures.found
+    c.if-first-ahead.true
+
+pub compute-returns-in_err-join_middles-clause-keeps : goal.compute-returns-in_err-join_middles-clause-keeps
+compute-returns-in_err-join_middles-clause-keeps g t c =
+    middles_keeps c.requires c.min-first.ensures c.full.ensures c.in_ok-nine.ensures.adds c.in_ok-nine.ensures.squares c.in_ok-all_forward.ensures.keeps c.in_ok-all_forward.ensures.found
+    c.if-first-ahead.true c.join_middles.ensures.adds
+
+pub compute-returns-then-first-ahead-clause-keeps : goal.compute-returns-then-first-ahead-clause-keeps
+compute-returns-then-first-ahead-clause-keeps g t c =
+    middles_keeps c.requires c.min-first.ensures c.full.ensures c.in_ok-nine.ensures.adds c.in_ok-nine.ensures.squares c.in_ok-all_forward.ensures.keeps c.in_ok-all_forward.ensures.found
+    c.if-first-ahead.true c.in_ok-join_middles.ensures.adds
+
+pub compute-returns-then-first-ahead-clause-found : goal.compute-returns-then-first-ahead-clause-found
+compute-returns-then-first-ahead-clause-found g t c =
+    let square = middles_found c.requires c.min-first.ensures c.full.ensures c.in_ok-nine.ensures.adds c.in_ok-nine.ensures.squares c.in_ok-all_forward.ensures.keeps c.in_ok-all_forward.ensures.found
+    c.if-first-ahead.true c.join_middles.new.table c.in_ok-join_middles.field-0
+    c.in_ok-join_middles.ensures.square in
+    record { square = square; put = λ is. absurd (cc (is.has.whole, c.if-is_lean-2.true, c.is_lean-is_lean.ensures)) }
 
 pub compute-returns-in_err-fours-clause-keeps : goal.compute-returns-in_err-fours-clause-keeps
 compute-returns-in_err-fours-clause-keeps g t c =
@@ -60,10 +88,13 @@ compute-returns-in_err-join_numbers-clause-keeps g t c =
 
 pub compute-returns : goal.compute-returns
 compute-returns g t c =
+    let made = joined_made c.requires c.min-first.ensures c.full.ensures c.in_ok-nine.ensures.adds c.in_ok-nine.ensures.squares c.in_ok-all_forward.ensures.keeps c.in_ok-all_forward.ensures.found
+    c.in_ok-fours.ensures.adds c.in_ok-fours.ensures.squares c.in_ok-all_forward-2.ensures.keeps c.in_ok-all_forward-2.ensures.found
+    c.in_ok-join_numbers.ensures.grows c.in_ok-all_forward.ensures.made c.in_ok-all_forward-2.ensures.made _ c.in_ok-join_numbers.ensures.square in
     let all = joined_all c.requires c.min-first.ensures c.full.ensures c.in_ok-nine.ensures.adds c.in_ok-nine.ensures.squares c.in_ok-all_forward.ensures.keeps c.in_ok-all_forward.ensures.found
     c.in_ok-fours.ensures.adds c.in_ok-fours.ensures.squares c.in_ok-all_forward-2.ensures.keeps c.in_ok-all_forward-2.ensures.found
     c.in_ok-join_numbers.ensures.grows c.in_ok-all_forward.ensures.asks c.in_ok-all_forward-2.ensures.asks c.in_ok-join_numbers.ensures.one c.in_ok-join_numbers.ensures.square in
-    record { keeps = all.0; end = search rules; found = all.1; asks = all.2 }
+    record { keeps = all.0; end = search rules; found = all.1; asks = all.2; made = made }
 
 pub forward-returns-in_err-middle-clause-keeps : goal.forward-returns-in_err-middle-clause-keeps
 forward-returns-in_err-middle-clause-keeps g t c =
@@ -77,6 +108,7 @@ forward-returns-then-ahead-eq0 g t c =
       end = search rules;
       found = IsFound-none c.if-ahead-eq0.true made.grows c.requires.ready.numbered made.square;
       asks = λ is. Asks-grown made.grows c.requires.right is.has;
+      made = MakesFor-none c.args.k c.args.number c.if-ahead-eq0.true made.grows c.requires.right c.requires.ready.numbered made.square;
     }
 
 pub forward-returns-in_err-remember-clause-keeps : goal.forward-returns-in_err-remember-clause-keeps
@@ -98,4 +130,5 @@ forward-returns g t c =
       end = search rules;
       found = found_still high grows numbered noted some made.found;
       asks = asks_still high grows numbered noted some made.found made.asks;
+      made = MakesFor-noted c.args.number grows numbered noted made.made;
     }

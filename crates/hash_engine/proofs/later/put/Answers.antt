@@ -11,6 +11,7 @@ use Rattle.hash_engine.specs.declared.memo.Memo.{Memo}
 use Rattle.hash_engine.proofs.Standing.{above}
 use Rattle.hash_engine.proofs.Shared.{IsRight-grows}
 use Rattle.hash_engine.proofs.Finding.{Keeps-noted, adds_result, IsFound-put, IsPut-noted, Asks-put}
+use Rattle.hash_engine.proofs.Making.{MakesFor-put}
 use Rattle.hash_engine.proofs.later.put.Goals as goal
 
 pub later-requires : goal.later-requires
@@ -50,5 +51,6 @@ returns g c =
       asks = λ is.
           let anew = c.requires.anew.anew (let few = is.few in omega (arith, some, few)) in
           Asks-put some is.few keeps.grows numbered noted positive c.requires.anew.right is.has anew made.asks;
+      made = MakesFor-put c.args.number some keeps.grows c.requires.anew.right numbered made.square noted;
       full = search rules;
     }

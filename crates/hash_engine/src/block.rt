@@ -1,0 +1,125 @@
+//! Results of blocks of 4 by 4 cells that needn't be squares of a table.
+ghost use Rattle.std.specs.Prelude.{◌≡◌, ◌<◌, ℕ, List, IfSome, IsTrue, [], length};
+ghost use Rattle.hash_engine.specs.Blocks.{AreKnownBlocks, IsLaterOf, IsKnownBlock};
+
+use std::alloc::Global;
+
+/// A block of 4 by 4 cells by the numbers of its quadrants nw, ne, sw and se, and the number of its
+/// result, or 0.
+#[derive(Clone, Copy)]
+pub struct Block {
+    pub quadrants: [u32; 4],
+    pub result: u32,
+}
+
+impl Block {
+    /// A block with these quadrants, whose result isn't known.
+    pub fn of(quadrants: [u32; 4]) -> Block
+        ensures quadrants { result.quadrants ≡ quadrants }
+        ensures none { result.result ≡ 0 }
+    {
+        Block {
+            quadrants,
+            result: 0,
+        }
+    }
+}
+
+// The list of results begins with so many places, and has no more than so many, which are 1.3 MB.
+const FEWEST: usize = 1 << 10;
+
+const MOST: usize = 1 << 16;
+
+// Where the result of a block is kept in a list of so many places, by a mix of the four numbers.
+fn place_of(quadrants: &[u32; 4], count: usize) -> usize {
+    let nw = u64::from(quadrants[0]).wrapping_mul(0x9e37_79b9_7f4a_7c15);
+    let ne = u64::from(quadrants[1]).wrapping_mul(0xd1b5_4a32_d192_ed03);
+    let sw = u64::from(quadrants[2]).wrapping_mul(0xbf58_476d_1ce4_e5b9);
+    let se = u64::from(quadrants[3]).wrapping_mul(0x94d0_49bb_1331_11eb);
+    let mix = nw.wrapping_add(ne).wrapping_add(sw).wrapping_add(se);
+    (mix >> 40) as usize & count.wrapping_sub(1)
+}
+
+// Whether two blocks have the same quadrants.
+fn is_same(a: &[u32; 4], b: &[u32; 4]) -> bool
+    ensures { IsTrue result → a.now ≡ b.now }
+{
+    a[0] == b[0] && a[1] == b[1] && a[2] == b[2] && a[3] == b[3]
+}
+
+/// The results of blocks, as many as there are places. Each block has one place, where what was kept
+/// last stands.
+#[derive(Drop)]
+pub struct Blocks {
+    list: Vec<Block>,
+    // How many were kept since the list grew.
+    kept: usize,
+}
+
+impl Blocks {
+    /// None.
+    pub fn nothing(alloc: Global) -> Blocks
+        ensures { result.list.items ≡ [] }
+    {
+        Blocks {
+            list: Vec::new(alloc),
+            kept: 0,
+        }
+    }
+
+    /// Gives up all, and keeps their memory.
+    pub fn clear(&mut self)
+        ensures { self.new.list.items ≡ [] }
+    {
+        Vec::clear(&mut self.list);
+        self.kept = 0;
+    }
+
+    /// The result of a block, where it is kept.
+    pub fn recall(&self, quadrants: &[u32; 4]) -> Option<u32>
+        ensures { IfSome result (λ r. (next : List ℕ → ℕ) (rows : List (List ℕ)) →
+            AreKnownBlocks next rows self.now.list.items → IsLaterOf next rows quadrants.now r) }
+    {
+        match self.list.get(place_of(quadrants, self.list.len())) {
+            Some(block) if block.result != 0 && is_same(&block.quadrants, quadrants) => {
+                Some(block.result)
+            }
+            _ => None,
+        }
+    }
+
+    // Twice as many places, all of them empty, where there is memory for them.
+    fn grow(&mut self)
+        ensures { (next : List ℕ → ℕ) (rows : List (List ℕ)) →
+            AreKnownBlocks next rows self.new.list.items }
+    {
+        let count = (self.list.len() * 2).max(FEWEST);
+        self.clear();
+        let _ = self.list.resize(count, Block::of([0; 4]));
+    }
+
+    // Once as many were kept as there are places, the list grows, so that one that is cleared often is
+    // never long.
+    fn make_room(&mut self)
+        ensures { (next : List ℕ → ℕ) (rows : List (List ℕ)) →
+            AreKnownBlocks next rows self.old.list.items → AreKnownBlocks next rows self.new.list.items }
+    {
+        if self.kept >= self.list.len() && self.list.len() < MOST {
+            self.grow();
+        }
+    }
+
+    /// Keeps the result of a block in place of the one that stands there, where there is memory for it.
+    pub fn keep(&mut self, block: Block)
+        ensures { (next : List ℕ → ℕ) (rows : List (List ℕ)) →
+            AreKnownBlocks next rows self.old.list.items → IsKnownBlock next rows block →
+            AreKnownBlocks next rows self.new.list.items }
+    {
+        self.make_room();
+        let place = place_of(&block.quadrants, self.list.len());
+        if place < self.list.len() {
+            self.list[place] = block;
+            self.kept = self.kept.saturating_add(1);
+        }
+    }
+}
