@@ -1,5 +1,4 @@
-pub mod Chained
-pub mod Links
+pub mod Probing
 pub mod Shared
 pub mod Loading
 pub mod Listing

@@ -1,4 +1,4 @@
-pub mod Chains
+pub mod Slots
 pub mod Squares
 pub mod Faults
 pub mod Centred

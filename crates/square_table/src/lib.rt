@@ -3,9 +3,9 @@
 //! A `SquareTable` keeps the quadrants of each square by their numbers. Squares of equal cells and
 //! equal level have equal numbers, and others have different ones, so two squares are compared at the
 //! cost of two numbers, and what is found of one holds for all that are equal. `join` finds or makes
-//! the square of four by a hash table with chains, at 20 bytes for the row and 8 to 16 for the heads
-//! of chains, of which at most half are in use. A look-up reads a head and a row; with `guess` several
-//! look-ups wait for their heads together. A handle, `Square`, has its quadrants in an arena that is
+//! the square of four by a hash table with linear probing, at 16 bytes for the row and 11 to 21 for its
+//! slots, of which at most three quarters are in use. A look-up reads a slot, sometimes those behind it,
+//! and a row; with `guess` several look-ups wait for their slots together. A handle, `Square`, has its quadrants in an arena that is
 //! made before the table.
 //!
 //! `load` makes the square of a plane, by one look-up for each of its rows, and `pack` the plane of a
@@ -13,13 +13,13 @@
 //! for each divided square of the patch and for each level above it.
 #![tactic(auto)]
 
-mod chains;
 mod fault;
 mod laws;
 mod lay;
 mod load;
 mod pack;
 mod renumbering;
+mod slots;
 mod square;
 mod table;
 

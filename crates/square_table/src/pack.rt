@@ -10,8 +10,8 @@ ghost use Rattle.square_table.specs.Squares.{IsHeld, IsNumber, AreNumbers, squar
 ghost use Rattle.square_table.specs.Centred.{IsCentred};
 ghost use Rattle.square_table.specs.Packing.{IsPacking, Packs, WalksFour, IsPadded, SharesSquare, IsAlike, square_by};
 
-use crate::chains::is_same;
 use crate::renumbering::Renumbering;
+use crate::slots::is_same;
 use crate::square::Square;
 use crate::table::SquareTable;
 use plane_core::{Plane, SquareRow};

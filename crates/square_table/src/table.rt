@@ -1,14 +1,14 @@
 //! The distinct squares of one computation.
 ghost use Rattle.std.specs.Prelude.{◌≡◌, ℕ, ◌+◌, ◌-◌, ◌^◌, ◌<◌, ◌≤◌, length, map, slice_index_or, vec_len, [], ◌∷◌, ◌++◌, IfOk, IfSome, IfNone, OnOk, OnErr, Err};
 ghost use Rattle.worlds.specs.Square.{one, empty_square};
-ghost use Rattle.square_table.specs.Chains.{kids_of, IsChained, IsAbsent};
+ghost use Rattle.square_table.specs.Slots.{FindsRows};
 ghost use Rattle.square_table.specs.Squares.{Table, IsNumber, IsHeld, IsSquareOf, Grows, GrowsBy, KeepsSquares, AreFour, IsJoined, Lacks, Tells, with_row, first_number, kids_at, level_of, number_of, AreDistinct};
 ghost use Rattle.square_table.specs.Made.{IsFull};
 ghost use Rattle.square_table.specs.Loading.{GrowsFrom};
 ghost use Rattle.square_table.specs.declared.square.Square.{Square};
 
-use crate::chains::{Row, append, bucket, chains, empty, head, is_same, search, widen};
 use crate::fault::TableFault;
+use crate::slots::{Slot, append, empty, free_slots, is_same, mark, marked, search, widen};
 use crate::square::Square;
 use bumpalo::Bump;
 use std::alloc::{AllocError, Global};
@@ -17,9 +17,8 @@ use std::marker::Model;
 // Below it numbers are those of cells, which are their states.
 const FIRST_NUMBER: u32 = 256;
 
-// A table begins with so many chains. Their number is a power of two, and doubles with the rows:
-// there are about twice as many or more, so that most rows stand first on their chains.
-const FEWEST_CHAINS: usize = 1024;
+// A table begins with so many slots. Their number is a power of two, and doubles with the rows.
+const FEWEST_SLOTS: usize = 1024;
 
 /// The distinct squares of one computation. The arena, which is made before the table, holds the
 /// quadrants of its handles.
@@ -30,8 +29,8 @@ const FEWEST_CHAINS: usize = 1024;
 pub struct SquareTable<'a> {
     arena: &'a Bump,
     none: &'a [u32; 4],
-    rows: Vec<Row>,
-    heads: Vec<u32>,
+    rows: Vec<[u32; 4]>,
+    slots: Vec<Slot>,
     // What a packing renumbers squares by, for the next one.
     places: Vec<u32>,
     limit: u32,
@@ -39,15 +38,15 @@ pub struct SquareTable<'a> {
 }
 
 impl<'a> Model for SquareTable<'a> {
-    ghost use Rattle.std.specs.Prelude.{◌≤◌, length, map};
-    ghost use Rattle.square_table.specs.Chains.{kids_of, IsChained};
+    ghost use Rattle.std.specs.Prelude.{◌≤◌, length};
+    ghost use Rattle.square_table.specs.Slots.{FindsRows};
     ghost use Rattle.square_table.specs.Squares.{Table, AreDistinct};
 
     ghost Value = { Table };
 
-    ghost view = { λ t. record { rows = map kids_of t.rows.items; limit = t.limit } };
+    ghost view = { λ t. record { rows = t.rows.items; limit = t.limit } };
 
-    ghost invariant = { λ t. IsChained t.rows.items 0 t.heads.items × AreDistinct (map kids_of t.rows.items) × (length t.rows.items ≤ t.limit) × (t.limit ≤ 16777216) };
+    ghost invariant = { λ t. FindsRows t.rows.items (length t.rows.items) t.slots.items × AreDistinct t.rows.items × (length t.rows.items ≤ t.limit) × (t.limit ≤ 16777216) };
 }
 
 // Four numbers, placed in the arena for good.
@@ -81,7 +80,7 @@ impl<'a> SquareTable<'a> {
             arena,
             none: placed(arena, [0; 4])?,
             rows: Vec::new(alloc),
-            heads: chains(alloc, FEWEST_CHAINS)?,
+            slots: free_slots(alloc, FEWEST_SLOTS)?,
             places: Vec::new(alloc),
             limit,
             alloc,
@@ -89,12 +88,12 @@ impl<'a> SquareTable<'a> {
     }
 
     /// Gives up all squares. It keeps their memory, so that as many more take no more time than those
-    /// that they replace, and no chain is made anew.
+    /// that they replace, and no slot is made anew.
     pub fn clear(&mut self)
         ensures { self.new ≡ record { rows = []; limit = self.old.limit } }
     {
         self.rows.clear();
-        empty(&mut self.heads);
+        empty(&mut self.slots);
     }
 
     // Where its memory comes from. Who asks makes rows of its squares, which are distinct.
@@ -158,12 +157,12 @@ impl<'a> SquareTable<'a> {
         })
     }
 
-    // More chains, where rows may be first on half of them.
+    // More slots, where three quarters of them are in use: beyond that ways become long.
     fn make_ready(&mut self)
         ensures { self.new ≡ self.old }
     {
-        if self.rows.len() >= self.heads.len() / 2 {
-            widen(self.alloc, &mut self.rows, &mut self.heads);
+        if self.rows.len() >= self.slots.len() / 4 * 3 {
+            widen(self.alloc, &mut self.slots);
         }
     }
 
@@ -173,7 +172,7 @@ impl<'a> SquareTable<'a> {
         requires there { number < first_number + length self.now.rows }
         ensures { result ≡ kids_at self.now.rows number }
     {
-        self.rows[(number - FIRST_NUMBER) as usize].kids
+        self.rows[(number - FIRST_NUMBER) as usize]
     }
 
     /// The number of the square whose quadrants nw, ne, sw and se have these numbers.
@@ -189,15 +188,17 @@ impl<'a> SquareTable<'a> {
         ensures full { result ≡ Err TableFault.NoRoom → IsFull self.new }
     {
         self.make_ready();
-        let slot = bucket(&kids, self.heads.len());
-        match search(&self.rows, &self.heads, slot, &kids) {
-            Ok(at) => Ok(FIRST_NUMBER + at),
-            Err(last) => {
+        let mark = mark(&kids);
+        match search(&self.rows, &self.slots, mark, &kids) {
+            Ok(place) => Ok(FIRST_NUMBER + place),
+            Err(free) => {
                 let count = self.rows.len() as u32;
                 if count >= self.limit {
                     return Err(TableFault::NoRoom);
                 }
-                append(&mut self.rows, &mut self.heads, slot, last, kids)?;
+                // (none is free only where more were refused for want of memory)
+                let free = free.ok_or(TableFault::NoMemory)?;
+                append(&mut self.rows, &mut self.slots, free, mark, kids)?;
                 Ok(FIRST_NUMBER + count)
             }
         }
@@ -210,7 +211,7 @@ impl<'a> SquareTable<'a> {
     pub fn guess(&self, kids: [u32; 4]) -> u32
         ensures { result < first_number + length self.now.rows }
     {
-        FIRST_NUMBER - 1 + head(&self.heads, &kids)
+        FIRST_NUMBER - 1 + marked(&self.slots, mark(&kids))
     }
 
     /// As `join_numbers`, and sooner where the guess is right.
@@ -223,7 +224,7 @@ impl<'a> SquareTable<'a> {
     {
         if let Some(at) = guess.checked_sub(FIRST_NUMBER)
             && let Some(row) = self.rows.get(at as usize)
-            && is_same(&row.kids, &kids)
+            && is_same(row, &kids)
         {
             return Ok(guess);
         }

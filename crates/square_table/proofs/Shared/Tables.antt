@@ -2,13 +2,7 @@
 use Rattle.std.proofs.Common.{◌≡◌, ℕ, zero, suc, ◌+◌, ◌<◌, ◌≤◌, List, [], ◌∷◌, ◌++◌, length, map, get_or, slice_index_or, refl, sym, ◌∙◌, arith}
 use Rattle.std.proofs.lemmas.Bool.{cases_lt}
 use Rattle.std.proofs.lemmas.List.{get_or-map, get_or_append_left, get_or_push, length-map, length_push}
-use Rattle.square_table.specs.declared.chains.Row.{Row}
-use Rattle.square_table.specs.Chains.{kids_of, IsAbsent}
 use Rattle.square_table.specs.Squares.{IsNumber, square_in, kid_at, first_number, AreDistinct, Lacks}
-
--- the quadrants of a row
-pub row_kids : (rows : List Row) (i : ℕ) (d : Row) → i < length rows → get_or (map kids_of rows) i [] ≡ kids_of (slice_index_or rows i d)
-row_kids rows i d h = get_or-map kids_of rows i d [] h
 
 -- an old row of a longer list
 pub kept_row : (rows : List (List ℕ)) (row : List ℕ) (i : ℕ) → i < length rows → get_or (rows ++ row ∷ []) i [] ≡ get_or rows i []
@@ -50,10 +44,3 @@ AreDistinct-more rows row are wide lacks = record {
   four = λ i h. grind (arith, cases_lt i (length rows), kept_row, last_row, length_push, are.four i);
   distinct = λ i j h g same. grind (arith, cases_lt i (length rows), cases_lt j (length rows), kept_row, last_row, length_push, are.distinct i j, lacks i, lacks j);
 }
-
--- quadrants of no row, as the view has them
-pub Lacks-rows : (rows : List Row) (kids : List ℕ) → IsAbsent rows kids → Lacks (map kids_of rows) kids
-Lacks-rows rows kids none i h same =
-    let d : Row = record { kids = []; next = 0 } in
-    let there : i < length rows = omega (arith, h, length-map rows kids_of) in
-    none.absent i d there (sym (row_kids rows i d there) ∙ same)

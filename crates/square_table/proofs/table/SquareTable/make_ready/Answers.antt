@@ -1,10 +1,8 @@
-use Rattle.std.proofs.Common.{arith}
-use Rattle.square_table.proofs.Links.{whole}
-use Rattle.std.proofs.lemmas.List.{length-map}
+use Rattle.std.proofs.Common.{length}
 use Rattle.square_table.proofs.table.SquareTable.make_ready.Goals as goal
 
 pub invariant_of-self : goal.invariant_of-self
-invariant_of-self c = grind (arith, length-map, whole)
-
-pub returns-then-len : goal.returns-then-len
-returns-then-len c = grind (arith, length-map, whole)
+invariant_of-self c =
+    let is = c.self.invariant in
+    let rows = c.self.inside.rows.items in
+    (c.widen.ensures rows (length rows) is.0, is.1, is.2, is.3)

@@ -1,0 +1,10 @@
+use Rattle.std.proofs.Common.{◌≡◌, ◌<◌, length}
+use Rattle.square_table.specs.Slots.{way, IsUsed}
+use Rattle.square_table.proofs.slots.free_slot.Given as goal
+
+abbrev pub invariant-loop : goal.invariant-loop
+invariant-loop l = record {
+  at : l.at ≡ way l.mark (length l.slots) l.counter;
+  inside : l.at < length l.slots;
+  used : IsUsed l.slots l.mark l.counter;
+}

@@ -1,0 +1,34 @@
+use Rattle.std.proofs.Common.{◌∙◌, length, slice_index_or, sym, ap, arith, inl}
+use Rattle.std.proofs.lemmas.List.{get_or_default}
+use Rattle.square_table.specs.Slots.{next_of}
+use Rattle.square_table.proofs.Probing.{way_first, way_next, passed_none, passes, lacks_passed}
+use Rattle.square_table.specs.declared.slots.Slot.{Slot}
+use Rattle.square_table.proofs.slots.search.Goals.{else-slot-mark-via-then-slot-mark+else-is_same, else-slot-mark-via-else-slot-mark}
+use Rattle.square_table.proofs.slots.search.Goals as goal
+
+pub loop-init : goal.loop-init
+loop-init c = record {
+  at = c.first-at.ensures.value ∙ sym (way_first c.args.mark (length c.args.slots.now));
+  inside = c.first-at.ensures.within;
+  passed = passed_none c.args.rows.now c.args.slots.now c.args.kids.now c.args.mark;
+}
+
+pub loop-preserved : goal.loop-preserved
+loop-preserved c =
+    let n = length c.args.slots.now in
+    let free : Slot = record { mark = 0; row = 0 } in
+    let slot = slice_index_or c.args.slots.now c.loop.at free in
+    record {
+      at = c.next-at.ensures.value ∙ ap (λ s. next_of s n) c.loop.invariant.at ∙ sym (way_next c.args.mark n c.loop.counter);
+      inside = c.next-at.ensures.within;
+      passed = passes c.args.rows.now c.args.slots.now c.args.kids.now c.args.mark c.loop.counter slot c.requires.finds c.requires.mark c.loop.invariant.passed
+          (λ d. ap (λ s. slice_index_or c.args.slots.now s d) (sym c.loop.invariant.at) ∙ get_or_default c.args.slots.now c.loop.at d free c.loop.invariant.inside)
+          (omega (arith, c.if-slot-eq0.false)) (λ mark kids. elim c.else-slot-mark.branch [
+            | else-slot-mark-via-then-slot-mark+else-is_same w ↦ grind (arith, w.if-is_same, w.is_same.ensures, kids)
+            | else-slot-mark-via-else-slot-mark w ↦ w.if-slot-mark.false mark
+          ]);
+    }
+
+pub returns-clause-absent : goal.returns-clause-absent
+returns-clause-absent c =
+    lacks_passed c.args.rows.now c.args.slots.now c.args.kids.now c.args.mark c.loop.counter (record { mark = 0; row = 0 }) c.requires.finds c.requires.mark c.loop.invariant.passed (inl (omega (arith, c.loop-test.false, c.loop.auto.counter-end)))
