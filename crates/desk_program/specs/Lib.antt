@@ -1,3 +1,4 @@
 pub mod Ending
 pub mod Greeting
 pub mod Start
+pub mod Line

@@ -5,8 +5,8 @@ ghost use Rattle.desk_server.specs.Jobs.{IsFresh};
 ghost use Rattle.desk_program.specs.Start.{Answers, AreOpenable};
 
 use crate::ending::Ending;
+use crate::progress::Screen;
 use crate::shown::{Board, ScreenBell};
-use desk_progress::Screen;
 use desk_server::{CountedReader, CountedWriter, Entries, Post, RunFault, run, run_seen};
 use std::alloc::Global;
 use std::io::{Read, Write};

@@ -12,6 +12,7 @@
 mod devices;
 mod ending;
 mod program;
+mod progress;
 mod shown;
 mod typed;
 
@@ -19,4 +20,5 @@ pub use desk_server::RunFault;
 pub use desk_words::{OptionFault, given_words};
 pub use ending::{Ending, report, tell};
 pub use program::start;
+pub use progress::Line;
 pub use typed::greeting;

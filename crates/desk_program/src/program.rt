@@ -8,10 +8,10 @@ ghost use Rattle.desk_program.specs.Start.{Answers, AreOpenable, Opens, Starts};
 
 use crate::devices::{Devices, answer_over};
 use crate::ending::{Ending, report, tell};
+use crate::progress::{Glimpses, Screen, empty_board, watch};
 use crate::shown::{Board, end};
 use crate::typed::greet;
 use desk_board::Viewer;
-use desk_progress::{Glimpses, Screen, empty_board, watch};
 use desk_server::{Entries, RunFault};
 use desk_words::{Options, check_words};
 use job_pool::{NoPool, PoolPost, pool};

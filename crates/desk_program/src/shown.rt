@@ -1,6 +1,6 @@
 //! How a run shows its progress.
 
-use desk_progress::{Glimpses, Screen};
+use crate::progress::{Glimpses, Screen};
 use desk_server::Bell;
 use std::sync::Wait;
 use std::time::Clock;

@@ -1,4 +1,4 @@
-//! The tests of `desk_program`: what is written where, and the endings.
+//! The tests of `desk_program`: what is written where, the endings, and the line that says how far a settling is.
 #![tactic(auto)]
 
 #[cfg(test)]

@@ -1,4 +1,6 @@
 //! What is written where, and the endings.
+mod progress;
+
 use desk_program::{Ending, OptionFault, RunFault, greeting, report, start, tell};
 use std::alloc::Global;
 use std::cell::Cell;

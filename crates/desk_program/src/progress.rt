@@ -9,7 +9,6 @@
 //! The text of the line is proved. That the line is written, when, and that it is cleared is only
 //! tested. The thread that edits waits at most for one line that is being written; a look at the
 //! board waits for nobody and takes no memory.
-#![tactic(auto)]
 
 mod glimpses;
 mod line;

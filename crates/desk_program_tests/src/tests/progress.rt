@@ -1,5 +1,5 @@
-//! Lines.
-use desk_progress::Line;
+//! The lines that say how far a settling is.
+use desk_program::Line;
 use std::alloc::Global;
 use std::process::Abort;
 

@@ -1,6 +1,6 @@
 //! What the two threads share.
 
-use crate::stage::{Settling, Stage};
+use super::stage::{Settling, Stage};
 use std::sync::{Condvar, Mutex, MutexGuard, Wait};
 use std::time::{Clock, Duration, Instant};
 

@@ -1,6 +1,6 @@
 //! Who publishes for the thread that looks on.
 
-use crate::screen::Screen;
+use super::screen::Screen;
 use desk_board::Publisher;
 use desk_core::{Desk, Onlooker};
 use std::sync::Wait;

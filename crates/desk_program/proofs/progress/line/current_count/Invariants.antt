@@ -1,6 +1,6 @@
 use Rattle.std.proofs.Common.{◌≡◌, ◌≤◌, count_by, take}
-use Rattle.desk_progress.specs.Line.{is_current}
-use Rattle.desk_progress.proofs.line.current_count.Given as goal
+use Rattle.desk_program.specs.Line.{is_current}
+use Rattle.desk_program.proofs.progress.line.current_count.Given as goal
 
 abbrev pub invariant-loop-row : goal.invariant-loop-row
 invariant-loop-row l = record {

@@ -1,8 +1,8 @@
 //! The thread that writes the lines.
 
-use crate::line::Line;
-use crate::screen::{Screen, one_second};
-use crate::stage::{Settling, Stage};
+use super::line::Line;
+use super::screen::{Screen, one_second};
+use super::stage::{Settling, Stage};
 use desk_board::Viewer;
 use std::sync::Wait;
 use std::time::Clock;

@@ -1,6 +1,6 @@
 //! The line.
 ghost use Rattle.std.specs.Prelude.{◌≡◌, ◌≤◌, count_by};
-ghost use Rattle.desk_progress.specs.Line.{is_current, line_of};
+ghost use Rattle.desk_program.specs.Line.{is_current, line_of};
 
 use desk_board::{ShownRow, Snapshot};
 use std::fmt;
@@ -17,7 +17,7 @@ pub struct Line {
 
 impl fmt::Display for Line {
     ghost use Rattle.std.specs.Prelude.{Some};
-    ghost use Rattle.desk_progress.specs.Line.{line_text};
+    ghost use Rattle.desk_program.specs.Line.{line_text};
 
     ghost output = { λ line. Some (line_text line.revision line.current line.all line.seconds) };
 

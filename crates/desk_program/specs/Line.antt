@@ -2,7 +2,7 @@
 use Rattle.std.specs.Prelude.{ℕ, Bool, List, ◌++◌, codes, count_by, decimal, is_some, length}
 use Rattle.desk_board.specs.Picture.{Picture}
 use Rattle.desk_board.specs.declared.row.ShownRow.{ShownRow}
-use Rattle.desk_progress.specs.declared.line.Line.{Line}
+use Rattle.desk_program.specs.declared.progress.line.Line.{Line}
 
 -- as in `revision 12: 3 of 8 bookmarks are current, 41 s`
 abbrev pub line_text : ℕ → ℕ → ℕ → ℕ → List ℕ
