@@ -9,11 +9,11 @@ use Rattle.worlds.specs.Square.{Square, one}
 use Rattle.square_table.specs.Squares.{Table, AreNumbers, square_of, Grows, GrowsBy, IsSquareOf}
 use Rattle.square_table.specs.Made.{Adds}
 use Rattle.square_table.proofs.Shared.Growth.{Grows-same, AreNumbers-grows, square_of-grows}
-use Rattle.hash_life.specs.Result.{later, result}
+use Rattle.hash_life.specs.Result.{middle, later, result}
 use Rattle.hash_life.specs.Puts.{Puts, nine_of, fours_of, IsBelow}
 use Rattle.hash_life.specs.Makes.{Makes}
-use Rattle.hash_life.proofs.Shared.InTwo.{OfParts, result-in_two, Puts-parts}
-use Rattle.hash_life.proofs.Shared.Made.{Makes-result, Makes-parts}
+use Rattle.hash_life.proofs.Shared.InTwo.{result-none, result-later, result-in_two}
+use Rattle.hash_life.proofs.Shared.Made.{Makes-result}
 use Rattle.hash_engine.specs.Standing.{StandsFor, StandForAll}
 use Rattle.hash_engine.specs.Blocks.{IsKnownBlock, AreBlocks, IsReadyBlock, GiveFourBlocks, later_of, no_block, result_of}
 use Rattle.hash_engine.specs.Memo.{IsRightMemo}
@@ -24,12 +24,19 @@ use Rattle.hash_engine.specs.declared.memo.Memo.{Memo}
 use Rattle.hash_engine.proofs.Standing.{corner, StandsFor-grows, StandsFor-joined, Adds-made}
 use Rattle.hash_engine.proofs.Shared.{IsRight-grows}
 use Rattle.hash_engine.proofs.Finding.{Keeps-grown, Keeps-then, adds_result}
-use Rattle.hash_engine.proofs.Computing.{four_results}
+use Rattle.hash_engine.proofs.Computing.{four_results, makes_parts, puts_parts}
 
 -- what follows of a way
 pub Keeps-way : {next new : List ℕ → ℕ} {c d : ℕ} {Way Rest : (Square → Type 0) → Type 0} {t u : Table} {memo : Memo} →
     ((all : List Square) → Way (Contains all) → Rest (Contains all)) → KeepsOnWay next new c d Rest t u memo → KeepsOnWay next new c d Way t u memo
 Keeps-way so keeps = grind arith
+
+-- the middle of a block for no generation, and for one or more
+pub result_none : (next : List ℕ → ℕ) (s : Square) {generations : ℕ} → generations ≡ 0 → middle s ≡ result next 0 generations s
+result_none next s none = sym (result-none next 0 s) ∙ ap (λ n. result next 0 n s) (sym none)
+
+pub result_some : (next : List ℕ → ℕ) (s : Square) {generations : ℕ} → 0 < generations → later next s ≡ result next 0 generations s
+result_some next s {generations} some = sym (result-later next generations s some)
 
 -- the middle of a block some generations later, in a table that grew
 pub later_of-grows : (next : List ℕ → ℕ) (generations : ℕ) (t u : Table) (quadrants : List ℕ) → Grows t u → AreNumbers t.rows 1 quadrants →
@@ -133,14 +140,8 @@ module _ {next : List ℕ → ℕ} {c : ℕ} {t : Table} {memo : Memo} {ahead nu
   abbrev fours : List Square
   fours = fours_of (map (result next 0 1) (nine_of s))
 
-  is_first : 1 ≡ min ahead (2 ^ 0)
+  is_first : 1 ≡ min ahead 1
   is_first = let some = can.some in omega (arith, some)
-
-  makes_parts : (P : Square → Type 0) → Makes next 1 ahead s P → OfParts next 0 1 (ahead - 1) s (λ m q. Makes next 0 m q P)
-  makes_parts P makes = Makes-parts next 0 ahead 1 s P can.some is_first makes
-
-  puts_parts : (P : Square → Type 0) → Puts next 1 ahead s P → OfParts next 0 1 (ahead - 1) s (λ m q. Puts next 0 m q P)
-  puts_parts P puts = Puts-parts next 0 ahead 1 s P can.some is_first puts
 
   -- blocks with states of the rule can be sought
   can_all : {mid : List ℕ → ℕ} {d m : ℕ} {u : Table} {after : Memo} {blocks : List Block} {ss : List Square} →
@@ -157,13 +158,13 @@ module _ {next : List ℕ → ℕ} {c : ℕ} {t : Table} {memo : Memo} {ahead nu
   -- the nine
   module _ {nine : List Block} (are : AreBlocks t.rows nine (nine_of s)) where
     pub nine_can : CanSeekBlocks next c t memo 1 nine
-    nine_can = can_all (record { meaning = refl; states = refl }) can.seek.right are (puts_parts (IsBelow c) can.seek.ready.below).0
+    nine_can = can_all (record { meaning = refl; states = refl }) can.seek.right are (puts_parts can is_first refl (IsBelow c) can.seek.ready.below).0
 
     -- their results
     module _ {mid : List ℕ → ℕ} {d : ℕ} {u : Table} {after : Memo}
         (one_keeps : KeepsOnWay next mid c d (λ P. All (λ b. P (later_of next 1 t b.quadrants)) nine) t u after) where
       pub first_keeps : KeepsOnWay next mid c d (Makes next 1 ahead s) t u after
-      first_keeps = Keeps-way (λ all way. blocks_way next 1 t (Contains all) are (makes_parts (Contains all) way).0) one_keeps
+      first_keeps = Keeps-way (λ all way. blocks_way next 1 t (Contains all) are (makes_parts can is_first refl (Contains all) way).0) one_keeps
 
       -- the four of these
       module _ {results four : List Block} (finds : FirstHaveResults next 1 (length nine) nine results t u) (gives : GiveFourBlocks results four) where
@@ -171,7 +172,7 @@ module _ {next : List ℕ → ℕ} {c : ℕ} {t : Table} {memo : Memo} {ahead nu
         fours_are = gives u.rows _ (StandForAll-blocks are finds)
 
         pub fours_can : CanSeekBlocks mid d u after (ahead - 1) four
-        fours_can = can_all first_keeps.rule first_keeps.right fours_are (puts_parts (IsBelow c) can.seek.ready.below).1
+        fours_can = can_all first_keeps.rule first_keeps.right fours_are (puts_parts can is_first refl (IsBelow c) can.seek.ready.below).1
 
         -- their results
         module _ {new : List ℕ → ℕ} {n : ℕ} {v : Table} {last : Memo}
@@ -179,7 +180,7 @@ module _ {next : List ℕ → ℕ} {c : ℕ} {t : Table} {memo : Memo} {ahead nu
           pub last_keeps : KeepsOnWay next new c n (Makes next 1 ahead s) t v last
           last_keeps = Keeps-then first_keeps
               (λ all way. subst (λ f. All (λ b. Contains all (later_of f (ahead - 1) u b.quadrants)) four) (sym first_keeps.rule.meaning)
-              (blocks_way next (ahead - 1) u (Contains all) fours_are (makes_parts (Contains all) way).1)) two_keeps
+              (blocks_way next (ahead - 1) u (Contains all) fours_are (makes_parts can is_first refl (Contains all) way).1)) two_keeps
 
           -- the square of these
           module _ {ends : List Block} {kids : List ℕ} {w : Table} (two : FirstHaveResults mid (ahead - 1) (length four) four ends u v)

@@ -1,7 +1,7 @@
 -- Several results, and a result by nine and by four.
 use Rattle.std.proofs.Common.{◌≡◌, ℕ, suc, ◌+◌, ◌<◌, ◌≤◌, List, length, get_or, refl, sym, ◌∙◌, subst, arith, inl, inr, ◌-◌, ◌^◌, min, map, ap}
 use Rattle.std.proofs.Math.ListN.{set}
-use Rattle.std.specs.Prelude.{Contains, All}
+use Rattle.std.specs.Prelude.{Contains, All, true}
 use Rattle.std.proofs.lemmas.Bool.{cases_eq}
 use Rattle.std.proofs.lemmas.List.{length-map, get_or-map, length-set, get_or_default, get_or-set_same, get_or-set_other}
 use Rattle.square_table.specs.Squares.{Table, IsNumber, AreNumbers, square_in, square_of, Grows, GrowsBy, IsSquareOf}
@@ -24,7 +24,7 @@ use Rattle.hash_engine.specs.Standing.{StandsFor, StandForAll}
 use Rattle.hash_engine.specs.Adding.{AddsOf, AddsFours, AddsMiddles, GiveAllOf, GiveFours, GivesMiddles, square_of_four}
 use Rattle.hash_engine.specs.Memo.{IsRightMemo, IsPut, HasMade}
 use Rattle.hash_engine.specs.Found.{IsSameRule}
-use Rattle.hash_engine.proofs.Standing.{◌⟫◌, StandsFor-itself, StandsFor-grows, StandsFor-joined, Adds-made}
+use Rattle.hash_engine.proofs.Standing.{◌⟫◌, StandsFor-itself, StandsFor-grows, StandsFor-joined, Adds-made, four_stand}
 
 -- the first i of the squares have their results, and the others are as they were
 pub record AreDone (next : List ℕ → ℕ) (k generations i : ℕ) (olds news : List ℕ) (t : Table) (old : Memo) (u : Table) (new : Memo) : Type 0 where
@@ -111,8 +111,7 @@ pub four_results : (rows : List (List ℕ)) (k n : ℕ) (f g : Square → Square
     StandForAll now l ends (map g (fours_of (map f (nine_of (square_in rows (suc k) n))))) →
     AreNumbers now l ends × (square_of now l ends ≡ in_two f g (square_in rows (suc k) n))
 unfolding square_in
-four_results rows k n f g are =
-    grind (arith, are.count, are.each 0 0 (one 0), are.each 1 0 (one 0), are.each 2 0 (one 0), are.each 3 0 (one 0))
+four_results rows k n f g are = four_stand are
 
 -- the square that the middles of the four make
 four_middles : (rows : List (List ℕ)) (k n : ℕ) (f : Square → Square) →
@@ -146,11 +145,11 @@ module _ {next : List ℕ → ℕ} {c : ℕ} {t : Table} {memo : Memo} {k ahead 
   is_k : suc (k - 1) ≡ k
   is_k = omega (arith, can.above)
 
-  makes_parts : (P : Square → Type 0) → Makes next k ahead s P → OfParts next (k - 1) first (ahead - first) s (λ m q. Makes next (k - 1) m q P)
+  pub makes_parts : (P : Square → Type 0) → Makes next k ahead s P → OfParts next (k - 1) first (ahead - first) s (λ m q. Makes next (k - 1) m q P)
   makes_parts P makes =
       Makes-parts next (k - 1) ahead first s P can.some is_first (subst (λ l. Makes next l ahead s P) (sym is_k) makes)
 
-  puts_parts : (P : Square → Type 0) → Puts next k ahead s P → OfParts next (k - 1) first (ahead - first) s (λ m q. Puts next (k - 1) m q P)
+  pub puts_parts : (P : Square → Type 0) → Puts next k ahead s P → OfParts next (k - 1) first (ahead - first) s (λ m q. Puts next (k - 1) m q P)
   puts_parts P puts =
       Puts-parts next (k - 1) ahead first s P can.some is_first (subst (λ l. Puts next l ahead s P) (sym is_k) puts)
 
@@ -208,10 +207,13 @@ module _ {next : List ℕ → ℕ} {c : ℕ} {t : Table} {memo : Memo} {k ahead 
               let last = subst (λ m. result next (suc (k - 1)) ahead s ≡ in_two (result next (k - 1) first) (result next (k - 1) m) s) left same in
               made ∙ sym none ∙ sym last ∙ ap (λ l. result next l ahead s) is_k
 
-          pub middles_found : (e : Table) (r : ℕ) → GivesMiddles b results e r → StandsFor e.rows (suc k) r (result next k ahead s)
-          middles_found e r gives =
-              subst (λ l. StandsFor e.rows (suc l) r (result next k ahead s)) is_k
-              (subst (StandsFor e.rows (suc (suc (k - 1))) r) middles_are (gives (k - 1) _ nine_results))
+          pub middles_found : memo.is_lean ≡ true → (e : Table) (r : ℕ) → GivesMiddles b results e r → IsFound next (IsCounted next k ahead t memo) k ahead s e after r
+          middles_found lean e r gives = record {
+            square =
+                subst (λ l. StandsFor e.rows (suc l) r (result next k ahead s)) is_k
+                (subst (StandsFor e.rows (suc (suc (k - 1))) r) middles_are (gives (k - 1) _ nine_results));
+            put = λ is. absurd (cc (is.has.whole, lean));
+          }
 
           pub middles_keeps : {e : Table} → AddsMiddles b results e → KeepsOnWay next mid c d (Makes next k ahead s) t e after
           middles_keeps {e} adds =
@@ -271,7 +273,7 @@ module _ {next : List ℕ → ℕ} {c : ℕ} {t : Table} {memo : Memo} {k ahead 
                     Keeps-grown last_keeps fg (adds_result next k ahead s four_ends.1 (Adds-made four_ends.0 fg step))
 
                 -- what is made on the way is there in the end
-                pub joined_made : MakesForAll next (k - 1) first nine a memo b after →
+                joined_made : MakesForAll next (k - 1) first nine a memo b after →
                     MakesForAll mid (k - 1) (ahead - first) four_numbers e after f last → (r : ℕ) → IsSquareOf g.rows ends r →
                     MakesFor next k ahead number t memo g last
                 joined_made first_made more r is has =
@@ -338,7 +340,8 @@ module _ {next : List ℕ → ℕ} {c : ℕ} {t : Table} {memo : Memo} {k ahead 
                             (Puts-whole next (k - 1) ahead first s (IsPut g.rows last.full.items) can.some is_first (nine_put is, four_put is));
                       }
 
-                  pub joined_all : {r : ℕ} → GrowsBy ends f g → IsSquareOf g.rows ends r → KeepsOnWay next new c n (Makes next k ahead s) t g last ×
+                  pub joined_all : {r : ℕ} → GrowsBy ends f g → IsSquareOf g.rows ends r → MakesForAll next (k - 1) first nine a memo b after →
+                      MakesForAll mid (k - 1) (ahead - first) four_numbers e after f last → KeepsOnWay next new c n (Makes next k ahead s) t g last ×
                       IsFound next (IsCounted next k ahead t memo) k ahead s g last r ×
-                      (IsCounted next k ahead t memo → Asks next (Puts next k ahead s) t memo a0 g last a2)
-                  joined_all {r} step is = (joined_keeps step, joined_finds r is, joined_asks)
+                      (IsCounted next k ahead t memo → Asks next (Puts next k ahead s) t memo a0 g last a2) × MakesFor next k ahead number t memo g last
+                  joined_all {r} step is first_made more_made = (joined_keeps step, joined_finds r is, joined_asks, joined_made first_made more_made r is)

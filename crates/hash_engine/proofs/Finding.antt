@@ -11,7 +11,7 @@ use Rattle.hash_life.specs.Puts.{Puts}
 use Rattle.hash_life.proofs.Shared.InTwo.{Puts-itself, result-none, result-later}
 use Rattle.hash_life.proofs.Shared.Below as states
 use Rattle.hash_life.proofs.Shared.Put.{Puts-last, Puts-weaker, Puts-none}
-use Rattle.hash_engine.specs.Memo.{AreKnown, IsRightMemo, IsPut, ArePut, HasPut, IsRemembered, IsResult, StaysRight}
+use Rattle.hash_engine.specs.Memo.{AreKnown, IsRightMemo, IsPut, AreWays, HasWays, HasPut, IsRemembered, IsResult, StaysRight}
 use Rattle.hash_engine.specs.Asked.{is_put, places_put}
 use Rattle.hash_engine.specs.Search.{sought, Asks, KeepsOnWay, CanSeek, IsCounted, IsFound, FindsForAll}
 use Rattle.hash_engine.specs.declared.memo.Memo.{Memo}
@@ -51,30 +51,36 @@ IsPut-before next t u memo s grows right is =
     grind (arith, was_number next (λ k. 2 ^ k) t u memo.full.items is.place 0, square_in-grows)
 
 -- the ways to what is known
-ArePut-grows : (next : List ℕ → ℕ) (count : ℕ → ℕ) (t u : Table) (full known : List ℕ) → Grows t u →
-    AreKnown next count t.rows known → ArePut next count t.rows full known → ArePut next count u.rows full known
-ArePut-grows next count t u full known grows right are i k some number few =
-    let was = was_number next count t u known i k grows right some number in
-    let same = square_in-grows t u (suc (suc k)) (first_number + i) grows was in
-    let weaker = Puts-weaker next k (count k) (sought t k (first_number + i)) (IsPut t.rows full) (IsPut u.rows full) in
-    grind (arith, same, weaker (λ s is. IsPut-grows t u full s grows is) (are i k some was few))
+AreWays-grows : {Way More : ℕ → ℕ → Square → Type 0} (next : List ℕ → ℕ) (count : ℕ → ℕ) (t u : Table) (known : List ℕ) → ((k m : ℕ) (s : Square) → Way k m s → More k m s) →
+    Grows t u → AreKnown next count t.rows known → AreWays Way count t.rows known → AreWays More count u.rows known
+AreWays-grows {Way} {More} next count t u known so grows right are = record {
+  each = λ i k some number.
+      let was = was_number next count t u known i k grows right some number in
+      subst (More k (count k)) (sym (square_in-grows t u (suc (suc k)) (first_number + i) grows was)) (so k (count k) _ (are.each i k some was));
+}
+
+pub HasWays-grows : {Way More : ℕ → ℕ → Square → Type 0} (next : List ℕ → ℕ) (t u : Table) (memo : Memo) → ((k m : ℕ) (s : Square) → Way k m s → More k m s) →
+    Grows t u → IsRightMemo next t.rows memo → HasWays Way t.rows memo → HasWays More u.rows memo
+HasWays-grows next t u memo so grows right has = record {
+  whole = has.whole;
+  full = AreWays-grows next (λ k. 2 ^ k) t u memo.full.items so grows right.full has.full;
+  part = AreWays-grows next (λ k. get_or memo.counts k 0) t u memo.part.items so grows right.part has.part;
+}
 
 pub HasPut-grows : (next : List ℕ → ℕ) (t u : Table) (memo : Memo) → Grows t u → IsRightMemo next t.rows memo →
     HasPut next t.rows memo → HasPut next u.rows memo
-HasPut-grows next t u memo grows right has = record {
-  whole = has.whole;
-  full = ArePut-grows next (λ k. 2 ^ k) t u memo.full.items memo.full.items grows right.full has.full;
-  part = ArePut-grows next (λ k. get_or memo.counts k 0) t u memo.full.items memo.part.items grows right.part has.part;
-}
+HasPut-grows next t u memo grows =
+    HasWays-grows next t u memo (λ k m s way few. Puts-weaker next k m s _ _ (λ q is. IsPut-grows t u memo.full.items q grows is) (way few)) grows
 
 -- the way to what is recalled
-pub recalled_put : (next : List ℕ → ℕ) (count : ℕ → ℕ) (rows : List (List ℕ)) (full known : List ℕ) (k generations n r : ℕ) →
+pub recalled_way : (Way : ℕ → ℕ → Square → Type 0) (count : ℕ → ℕ) (rows : List (List ℕ)) (known : List ℕ) (k generations n r : ℕ) →
     generations ≡ count k → first_number ≤ n → 0 < r → get_or known (n - first_number) 0 ≡ r →
-    ArePut next count rows full known → IsNumber rows (suc (suc k)) n → generations ≤ 2 ^ k →
-    Puts next k generations (square_in rows (suc (suc k)) n) (IsPut rows full)
-recalled_put next count rows full known k generations n r asked high some is are number few =
+    AreWays Way count rows known → IsNumber rows (suc (suc k)) n → Way k generations (square_in rows (suc (suc k)) n)
+recalled_way Way count rows known k generations n r asked high some is are number =
     let place : first_number + (n - first_number) ≡ n = omega (arith, high) in
-    grind (arith, are (n - first_number) k)
+    let there = subst (IsNumber rows (suc (suc k))) (sym place) number in
+    subst (λ m. Way k m (square_in rows (suc (suc k)) n)) (sym asked)
+    (subst (λ m. Way k (count k) (square_in rows (suc (suc k)) m)) place (are.each (n - first_number) k (subst (λ v. 0 < v) (sym is) some) there))
 
 -- the table alone grew
 pub Asks-grown : {next : List ℕ → ℕ} {Way : (Square → Type 0) → Type 0} {t u : Table} {memo : Memo} {asks : ℕ} →
@@ -93,7 +99,28 @@ pub Asks-next : {next : List ℕ → ℕ} {Way : (Square → Type 0) → Type 0}
     Asks next Way t old a u mid b → Asks next Way u mid b v new c → Asks next Way t old a v new c
 Asks-next first then = Asks-then first (λ all way. way) then
 
--- one result more is remembered
+-- one result more is remembered: each is the same, or the one
+module _ {Way More : ℕ → ℕ → Square → Type 0} (u : Table) {k generations n r : ℕ} {old new : Memo} (number : IsNumber u.rows (suc (suc k)) n)
+    (is : IsRemembered k generations n r old new) (so : (l m : ℕ) (s : Square) → Way l m s → More l m s) (way : More k generations (sought u k n)) where
+  AreWays-noted : (count : ℕ → ℕ) (known more : List ℕ) →
+      (generations ≡ count k → (j : ℕ) → j ≢ n - first_number → get_or more j 0 ≡ get_or known j 0) →
+      (generations ≢ count k → more ≡ known) → AreWays Way count u.rows known → AreWays More count u.rows more
+  AreWays-noted count known more noted same are = record {
+    each = λ i l there at.
+        let place : first_number + (n - first_number) ≡ n = omega (arith, above u.rows (suc k) n number) in
+        let level = one_level u.rows (suc (suc k)) (suc (suc l)) in
+        grind (arith, cases_eq generations (count k), cases_eq i (n - first_number), are.each i l, place, level, so l (count l), way);
+  }
+
+  pub HasWays-noted : HasWays Way u.rows old → HasWays More u.rows new
+  HasWays-noted has = record {
+    whole = is.lean ∙ has.whole;
+    full = AreWays-noted (λ l. 2 ^ l) _ _ (λ by. (is.full by).others) is.other has.full;
+    part =
+        subst (λ (cs : List ℕ). AreWays More (λ l. get_or cs l 0) u.rows new.part.items) (sym is.counts)
+        (AreWays-noted (λ l. get_or old.counts l 0) _ _ is.part is.rest has.part);
+  }
+
 module _ (u : Table) {k generations n r : ℕ} {old new : Memo} (number : IsNumber u.rows (suc (suc k)) n)
     (is : IsRemembered k generations n r old new) (some : 0 < r) where
   place : first_number + (n - first_number) ≡ n
@@ -106,29 +133,13 @@ module _ (u : Table) {k generations n r : ℕ} {old new : Memo} (number : IsNumb
       record { place = put.place; numbered = put.numbered; known = known; square = put.square }
 
   module _ (next : List ℕ → ℕ) (way : Puts next k generations (sought u k n) (IsPut u.rows new.full.items)) where
-    -- each result is the same, or the one
-    ArePut-noted : (count : ℕ → ℕ) (known more : List ℕ) →
-        (generations ≡ count k → (j : ℕ) → j ≢ n - first_number → get_or more j 0 ≡ get_or known j 0) →
-        (generations ≢ count k → more ≡ known) →
-        ArePut next count u.rows old.full.items known → ArePut next count u.rows new.full.items more
-    ArePut-noted count known more noted same are i l there at few =
-        let weaker = Puts-weaker next l (count l) (sought u l (first_number + i)) (IsPut u.rows old.full.items) in
-        let level = one_level u.rows (suc (suc k)) (suc (suc l)) in
-        grind (arith, cases_eq generations (count k), cases_eq i (n - first_number), are i l, put_still, place, level, weaker (IsPut u.rows new.full.items))
-
     pub Asks-noted : {Way : (Square → Type 0) → Type 0} {a b : ℕ} →
         b + 4 * length (places_put u.rows old) ≡ a + 4 * length (places_put u.rows new) → HasPut next u.rows old →
         ((all : List Square) → Way (Contains all) → IsNumber u.rows 2 n → Contains all (square_in u.rows 2 n)) →
         Asks next Way u old a u new b
     Asks-noted {Way} {a} {b} four has listed = record {
       four = four;
-      has = record {
-        whole = is.lean ∙ has.whole;
-        full = ArePut-noted (λ l. 2 ^ l) _ _ (λ by. (is.full by).others) is.other has.full;
-        part =
-            subst (λ (cs : List ℕ). ArePut next (λ l. get_or cs l 0) u.rows new.full.items new.part.items) (sym is.counts)
-            (ArePut-noted (λ l. get_or old.counts l 0) _ _ is.part is.rest has.part);
-      };
+      has = HasWays-noted u number is (λ l m s was few. Puts-weaker next l m s _ _ put_still (was few)) (λ few. way) has;
       kept = put_still;
       among = λ all way only s put. elim (cases_eq put.place (n - first_number)) [
         | inl here ↦

@@ -35,21 +35,29 @@ abbrev pub AddsMiddle : Table → List ℕ → Table → Type 0
 AddsMiddle t quadrants u = (k : ℕ) → AreNumbers t.rows (suc k) quadrants →
     Adds (middle (square_of t.rows (suc k) quadrants) ∷ []) t u
 
--- whatever squares nine stand for, these are by their quadrants the middles of the four that overlap
--- in them
-pub record AreMiddlesAt (t : Table) (k : ℕ) (ss : List squares.Square) (all : List (List ℕ))
+-- four squares by the lists of their quadrants, which are of level k
+pub record MakeFour (rows : List (List ℕ)) (k : ℕ) (all : List (List ℕ)) (ss : List squares.Square)
     : Type 0 where
-  pub nw : AreNumbers t.rows k (get_or all 0 [])
-  pub ne : AreNumbers t.rows k (get_or all 1 [])
-  pub sw : AreNumbers t.rows k (get_or all 2 [])
-  pub se : AreNumbers t.rows k (get_or all 3 [])
-  pub are : map middle (fours_of ss) ≡ square_of t.rows k (get_or all 0 [])
-      ∷ square_of t.rows k (get_or all 1 []) ∷ square_of t.rows k (get_or all 2 [])
-      ∷ square_of t.rows k (get_or all 3 []) ∷ []
+  pub nw : AreNumbers rows k (get_or all 0 [])
+  pub ne : AreNumbers rows k (get_or all 1 [])
+  pub sw : AreNumbers rows k (get_or all 2 [])
+  pub se : AreNumbers rows k (get_or all 3 [])
+  pub are : ss ≡ square_of rows k (get_or all 0 []) ∷ square_of rows k (get_or all 1 [])
+      ∷ square_of rows k (get_or all 2 []) ∷ square_of rows k (get_or all 3 []) ∷ []
 
+-- whatever four squares these lists make, these stand for them
+abbrev pub GiveJoined : Table → List (List ℕ) → Table → List ℕ → Type 0
+GiveJoined t all u = λ ns. (k : ℕ) (ss : List squares.Square) → MakeFour t.rows k all ss →
+    StandForAll u.rows (suc k) ns ss
+
+-- and the table has no square more but them
+abbrev pub AddsJoined : Table → List (List ℕ) → Table → Type 0
+AddsJoined t all u = (k : ℕ) (ss : List squares.Square) → MakeFour t.rows k all ss → Adds ss t u
+
+-- whatever squares nine stand for, these lists make the middles of the four that overlap in them
 abbrev pub AreMiddles : Table → List ℕ → List (List ℕ) → Type 0
 AreMiddles t nine all = (k : ℕ) (ss : List squares.Square) → StandForAll t.rows (suc k) nine ss →
-    AreMiddlesAt t k ss all
+    MakeFour t.rows k all (map middle (fours_of ss))
 
 -- the square of four
 abbrev pub square_of_four : List squares.Square → squares.Square
@@ -83,6 +91,11 @@ GiveFours t nine u = λ ns.
 -- r stands for the middle, one generation later, of the square of 4 by 4 cells with the number n
 abbrev pub GivesPut : (List ℕ → ℕ) → Table → ℕ → Table → ℕ → Type 0
 GivesPut next t n u = λ r. StandsFor u.rows 1 r (later next (square_in t.rows 2 n))
+
+-- r stands for that of the block with these quadrants
+abbrev pub GivesBlockPut : (List ℕ → ℕ) → Table → List ℕ → Table → ℕ → Type 0
+GivesBlockPut next t quadrants u = λ r.
+    StandsFor u.rows 1 r (later next (square_of t.rows 1 quadrants))
 
 -- the one table with more rows, or none, of squares on the way to the root's result is the other
 pub record GrowsOnWay (next : List ℕ → ℕ) (generations : ℕ) (t : Table) (root : Square) (u : Table)

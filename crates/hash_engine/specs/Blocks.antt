@@ -25,6 +25,21 @@ pub record AreKnownBlocks (next : List ℕ → ℕ) (rows : List (List ℕ)) (bl
     : Type 0 where
   pub each : (i : ℕ) → IsKnownBlock next rows (get_or blocks i no_block)
 
+-- r is the number of the result of the block with these quadrants, if those of these blocks are right
+abbrev pub IsRecalledOf : List Block → List ℕ → ℕ → Type 0
+IsRecalledOf blocks quadrants = λ r. (next : List ℕ → ℕ) (rows : List (List ℕ)) →
+    AreKnownBlocks next rows blocks → IsLaterOf next rows quadrants r
+
+-- whatever the ones are right for, the others are right for
+abbrev pub StayKnown : List Block → List Block → Type 0
+StayKnown olds news = (next : List ℕ → ℕ) (rows : List (List ℕ)) →
+    AreKnownBlocks next rows olds → AreKnownBlocks next rows news
+
+-- if this block is right too
+abbrev pub StayKnownWith : Block → List Block → List Block → Type 0
+StayKnownWith b olds news = (next : List ℕ → ℕ) (rows : List (List ℕ)) →
+    AreKnownBlocks next rows olds → IsKnownBlock next rows b → AreKnownBlocks next rows news
+
 -- the block has the cells of the square
 pub record IsBlock (rows : List (List ℕ)) (s : squares.Square) (b : Block) : Type 0 where
   pub numbered : AreNumbers rows 1 b.quadrants

@@ -38,30 +38,34 @@ pub record IsPut (rows : List (List ℕ)) (full : List ℕ) (s : Square) : Type 
   pub known : 0 < get_or full place 0
   pub square : square_in rows 2 (first_number + place) ≡ s
 
--- what HashLife puts to the rule on the ways to these results was put to it, where the count isn't
--- above the full one
-abbrev pub ArePut : (List ℕ → ℕ) → (ℕ → ℕ) → List (List ℕ) → List ℕ → List ℕ → Type 0
-ArePut next count rows full known = (i k : ℕ) → 0 < get_or known i 0 →
-    IsNumber rows (suc (suc k)) (first_number + i) → count k ≤ 2 ^ k →
-    Puts next k (count k) (square_in rows (suc (suc k)) (first_number + i)) (IsPut rows full)
+-- a way is one to a result, by k, the generations and the square; so are the ways to these
+pub record AreWays (Way : ℕ → ℕ → Square → Type 0) (count : ℕ → ℕ) (rows : List (List ℕ))
+    (known : List ℕ) : Type 0 where
+  pub each : (i k : ℕ) → 0 < get_or known i 0 → IsNumber rows (suc (suc k)) (first_number + i) →
+      Way k (count k) (square_in rows (suc (suc k)) (first_number + i))
 
--- so it was on the ways to all results that are remembered, and a search goes on so
-pub record HasPut (next : List ℕ → ℕ) (rows : List (List ℕ)) (memo : Memo) : Type 0 where
+-- so are those to all results that are remembered, and a search goes on so
+pub record HasWays (Way : ℕ → ℕ → Square → Type 0) (rows : List (List ℕ)) (memo : Memo)
+    : Type 0 where
   pub whole : memo.is_lean ≡ false
-  pub full : ArePut next (λ k. 2 ^ k) rows memo.full.items memo.full.items
-  pub part : ArePut next (λ k. get_or memo.counts k 0) rows memo.full.items memo.part.items
+  pub full : AreWays Way (λ k. 2 ^ k) rows memo.full.items
+  pub part : AreWays Way (λ k. get_or memo.counts k 0) rows memo.part.items
 
--- all that HashLife makes on the ways to these results is there
-abbrev pub AreMade : (List ℕ → ℕ) → (ℕ → ℕ) → List (List ℕ) → List ℕ → Type 0
-AreMade next count rows known = (i k : ℕ) → 0 < get_or known i 0 →
-    IsNumber rows (suc (suc k)) (first_number + i) →
-    Makes next k (count k) (square_in rows (suc (suc k)) (first_number + i)) (IsMade rows)
+-- what HashLife puts to the rule on the way was put to it, where the count isn't above the full one
+abbrev pub WasPut : (List ℕ → ℕ) → List (List ℕ) → List ℕ → ℕ → ℕ → Square → Type 0
+WasPut next rows full k generations s =
+    generations ≤ 2 ^ k → Puts next k generations s (IsPut rows full)
 
--- so it is on the ways to all results that are remembered, and a search makes them all
-pub record HasMade (next : List ℕ → ℕ) (rows : List (List ℕ)) (memo : Memo) : Type 0 where
-  pub whole : memo.is_lean ≡ false
-  pub full : AreMade next (λ k. 2 ^ k) rows memo.full.items
-  pub part : AreMade next (λ k. get_or memo.counts k 0) rows memo.part.items
+-- all that HashLife makes on the way is there
+abbrev pub WasMade : (List ℕ → ℕ) → List (List ℕ) → ℕ → ℕ → Square → Type 0
+WasMade next rows k generations s = Makes next k generations s (IsMade rows)
+
+-- so it was on the ways to all results that are remembered
+abbrev pub HasPut : (List ℕ → ℕ) → List (List ℕ) → Memo → Type 0
+HasPut next rows memo = HasWays (WasPut next rows memo.full.items) rows memo
+
+abbrev pub HasMade : (List ℕ → ℕ) → List (List ℕ) → Memo → Type 0
+HasMade next rows memo = HasWays (WasMade next rows) rows memo
 
 -- no result by a full count is remembered
 abbrev pub HasNoFull : Memo → Type 0

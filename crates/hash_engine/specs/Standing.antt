@@ -2,7 +2,7 @@
 use Rattle.std.specs.Prelude.{◌≡◌, ℕ, suc, ◌<◌, List, length, get_or}
 use Rattle.worlds.specs.Square as squares
 use Rattle.worlds.specs.Square.{one, four}
-use Rattle.square_table.specs.Squares.{IsNumber, square_in}
+use Rattle.square_table.specs.Squares.{IsNumber, AreNumbers, square_in, square_of}
 use Rattle.hash_life.specs.Puts.{Puts, IsBelow}
 
 -- n is the number of the square s of level k
@@ -33,3 +33,9 @@ pub record IsReady (next : List ℕ → ℕ) (state_count : ℕ) (rows : List (L
 pub record CanBePut (state_count : ℕ) (rows : List (List ℕ)) (n : ℕ) : Type 0 where
   pub numbered : IsNumber rows 2 n
   pub below : IsBelow state_count (square_in rows 2 n)
+
+-- these are the quadrants of a block of 4 by 4 cells with states of the rule
+pub record BlockCanBePut (state_count : ℕ) (rows : List (List ℕ)) (quadrants : List ℕ)
+    : Type 0 where
+  pub numbered : AreNumbers rows 1 quadrants
+  pub below : IsBelow state_count (square_of rows 1 quadrants)

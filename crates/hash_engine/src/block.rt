@@ -1,6 +1,6 @@
 //! Results of blocks of 4 by 4 cells that needn't be squares of a table.
-ghost use Rattle.std.specs.Prelude.{◌≡◌, ◌<◌, ℕ, List, IfSome, IsTrue, [], length};
-ghost use Rattle.hash_engine.specs.Blocks.{AreKnownBlocks, IsLaterOf, IsKnownBlock};
+ghost use Rattle.std.specs.Prelude.{◌≡◌, ℕ, List, IfSome, IsTrue, []};
+ghost use Rattle.hash_engine.specs.Blocks.{AreKnownBlocks, IsRecalledOf, StayKnown, StayKnownWith};
 
 use std::alloc::Global;
 
@@ -77,8 +77,7 @@ impl Blocks {
 
     /// The result of a block, where it is kept.
     pub fn recall(&self, quadrants: &[u32; 4]) -> Option<u32>
-        ensures { IfSome result (λ r. (next : List ℕ → ℕ) (rows : List (List ℕ)) →
-            AreKnownBlocks next rows self.now.list.items → IsLaterOf next rows quadrants.now r) }
+        ensures { IfSome result (IsRecalledOf self.now.list.items quadrants.now) }
     {
         match self.list.get(place_of(quadrants, self.list.len())) {
             Some(block) if block.result != 0 && is_same(&block.quadrants, quadrants) => {
@@ -101,8 +100,7 @@ impl Blocks {
     // Once as many were kept as there are places, the list grows, so that one that is cleared often is
     // never long.
     fn make_room(&mut self)
-        ensures { (next : List ℕ → ℕ) (rows : List (List ℕ)) →
-            AreKnownBlocks next rows self.old.list.items → AreKnownBlocks next rows self.new.list.items }
+        ensures { StayKnown self.old.list.items self.new.list.items }
     {
         if self.kept >= self.list.len() && self.list.len() < MOST {
             self.grow();
@@ -111,9 +109,7 @@ impl Blocks {
 
     /// Keeps the result of a block in place of the one that stands there, where there is memory for it.
     pub fn keep(&mut self, block: Block)
-        ensures { (next : List ℕ → ℕ) (rows : List (List ℕ)) →
-            AreKnownBlocks next rows self.old.list.items → IsKnownBlock next rows block →
-            AreKnownBlocks next rows self.new.list.items }
+        ensures { StayKnownWith block self.old.list.items self.new.list.items }
     {
         self.make_room();
         let place = place_of(&block.quadrants, self.list.len());

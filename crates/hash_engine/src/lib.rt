@@ -1,5 +1,6 @@
 //! HashLife over shared squares: the middle of a square up to 2^k generations later, where each
-//! distinct square is computed once.
+//! distinct square is computed once. Of a `search` this holds but for blocks of 4 by 4 cells: it
+//! remembers a limited number of them, and puts one that it no longer remembers to the rule again.
 //!
 //! `result` is the function of squares of `hash_life`, which is single steps by the law that stands
 //! there (R. Wm. Gosper, Exploiting Regularities in Large Cellular Spaces, Physica 10D, 1984). A

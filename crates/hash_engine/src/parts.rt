@@ -6,8 +6,8 @@ ghost use Rattle.square_table.specs.Squares.{IsNumber, AreNumbers, square_in, sq
 ghost use Rattle.square_table.specs.Made.{Adds, IsFull};
 ghost use Rattle.hash_life.specs.Result.{middle, later};
 ghost use Rattle.hash_life.specs.Puts.{nine_of, IsBelow};
-ghost use Rattle.hash_engine.specs.Standing.{CanBePut, StandsFor, of_four};
-ghost use Rattle.hash_engine.specs.Adding.{AddsOf, AddsFours, AddsMiddle, AddsMiddles, AreMiddles, GivesOf, GiveAllOf, GiveFours, GivesMiddle, GivesMiddles, GivesPut};
+ghost use Rattle.hash_engine.specs.Standing.{CanBePut, BlockCanBePut, of_four};
+ghost use Rattle.hash_engine.specs.Adding.{AddsOf, AddsFours, AddsJoined, AddsMiddle, AddsMiddles, AreMiddles, GivesOf, GiveAllOf, GiveFours, GiveJoined, GivesMiddle, GivesMiddles, GivesPut, GivesBlockPut};
 ghost use Rattle.hash_engine.specs.Blocks.{AreBlocks, GiveFourBlocks};
 ghost use Rattle.hash_engine.specs.Found.{KeepsRule};
 
@@ -73,6 +73,26 @@ pub(crate) fn nine(table: &mut SquareTable<'_>, number: u32) -> Result<[u32; 9],
     Ok([nw, north, ne, west, centre, east, sw, south, se])
 }
 
+// Four squares, each of its quadrants. All are looked for before the first is joined.
+#[inline(always)]
+fn join_four(table: &mut SquareTable<'_>, four: [[u32; 4]; 4]) -> Result<[u32; 4], TableFault>
+    ensures grows { Grows table.old table.new }
+    ensures squares { IfOk result (GiveJoined table.old four table.new) }
+    ensures adds { AddsJoined table.old four table.new }
+    ensures full { result ≡ Err TableFault.NoRoom → IsFull table.new }
+{
+    let [nw, ne, sw, se] = four;
+    let north_west = table.guess(nw);
+    let north_east = table.guess(ne);
+    let south_west = table.guess(sw);
+    let south_east = table.guess(se);
+    let nw = table.join_guessed(nw, north_west)?;
+    let ne = table.join_guessed(ne, north_east)?;
+    let sw = table.join_guessed(sw, south_west)?;
+    let se = table.join_guessed(se, south_east)?;
+    Ok([nw, ne, sw, se])
+}
+
 /// The four squares that overlap in what nine make, by rows.
 pub(crate) fn fours(table: &mut SquareTable<'_>, nine: [u32; 9]) -> Result<[u32; 4], TableFault>
     ensures grows { Grows table.old table.new }
@@ -81,15 +101,10 @@ pub(crate) fn fours(table: &mut SquareTable<'_>, nine: [u32; 9]) -> Result<[u32;
     ensures full { result ≡ Err TableFault.NoRoom → IsFull table.new }
 {
     let [a, b, c, d, e, f, g, h, i] = nine;
-    let nw = table.guess([a, b, d, e]);
-    let ne = table.guess([b, c, e, f]);
-    let sw = table.guess([d, e, g, h]);
-    let se = table.guess([e, f, h, i]);
-    let nw = table.join_guessed([a, b, d, e], nw)?;
-    let ne = table.join_guessed([b, c, e, f], ne)?;
-    let sw = table.join_guessed([d, e, g, h], sw)?;
-    let se = table.join_guessed([e, f, h, i], se)?;
-    Ok([nw, ne, sw, se])
+    join_four(
+        table,
+        [[a, b, d, e], [b, c, e, f], [d, e, g, h], [e, f, h, i]],
+    )
 }
 
 // The middles of the four squares that overlap in what nine make, each by its quadrants.
@@ -125,16 +140,8 @@ pub(crate) fn join_middles(table: &mut SquareTable<'_>, nine: [u32; 9]) -> Resul
     ensures adds { AddsMiddles table.old nine table.new }
     ensures full { result ≡ Err TableFault.NoRoom → IsFull table.new }
 {
-    let [nw, ne, sw, se] = middles(table, nine);
-    let north_west = table.guess(nw);
-    let north_east = table.guess(ne);
-    let south_west = table.guess(sw);
-    let south_east = table.guess(se);
-    let nw = table.join_guessed(nw, north_west)?;
-    let ne = table.join_guessed(ne, north_east)?;
-    let sw = table.join_guessed(sw, south_west)?;
-    let se = table.join_guessed(se, south_east)?;
-    table.join_numbers([nw, ne, sw, se])
+    let four = join_four(table, middles(table, nine))?;
+    table.join_numbers(four)
 }
 
 /// The nine blocks of 4 by 4 cells that overlap in a square of 8 by 8, by rows.
@@ -232,12 +239,11 @@ pub(crate) fn later_of<Q: Ask>(
     rule: &mut Q,
     quadrants: [u32; 4],
 ) -> Result<u32, TableFault>
-    requires numbered { AreNumbers table.old.rows 1 quadrants }
-    requires below { IsBelow (Q.state_count rule.old) (square_of table.old.rows 1 quadrants) }
+    requires { BlockCanBePut (Q.state_count rule.old) table.old.rows quadrants }
     ensures adds { Adds (later (Q.meaning rule.old) (square_of table.old.rows 1 quadrants) ∷ [])
         table.old table.new }
-    ensures square { IfOk result (λ r. StandsFor table.new.rows 1 r
-        (later (Q.meaning rule.old) (square_of table.old.rows 1 quadrants))) }
+    ensures square { IfOk result
+        (GivesBlockPut (Q.meaning rule.old) table.old quadrants table.new) }
     ensures rule { KeepsRule Q.meaning Q.state_count rule.old rule.new }
     ensures asks { Q.asks rule.new ≡ Q.asks rule.old + 4 }
     ensures full { result ≡ Err TableFault.NoRoom → IsFull table.new }

@@ -1,4 +1,3 @@
-use Rattle.std.proofs.Common.{◌≡◌, length, lit<, subst, sym, ℕ, ◌<◌, rules}
 use Rattle.std.proofs.lemmas.Result.{IfOk-weaker}
 use Rattle.hash_engine.proofs.Standing.{corner_at}
 use Rattle.hash_engine.proofs.ByBlocks.{nine_can, first_keeps, fours_can, last_keeps, joined_keeps, joined_block}
@@ -21,20 +20,12 @@ returns-in_err-all_forward-2-clause-keeps g c =
 
 pub returns-clause-keeps : goal.returns-clause-keeps
 returns-clause-keeps g c =
-    let ends = c.all_forward-2.new.blocks in
-    let long : length ends ≡ 4 = search rules in
-    let low : (j : ℕ) → j < 4 → j < length ends = λ j below. subst (λ l. j < l) (sym long) below in
-    let listed = corner_at ends 0 1 2 3 (low 0 (lit< tt)) (low 1 (lit< tt)) (low 2 (lit< tt)) (low 3 (lit< tt)) in
     joined_keeps c.requires c.nine_blocks-nine.ensures c.in_ok-all_forward.ensures.keeps c.in_ok-all_forward.ensures.found c.four_blocks-fours.ensures
-    c.in_ok-all_forward-2.ensures.keeps c.in_ok-all_forward-2.ensures.found listed c.join_numbers.ensures.grows c.join_numbers.ensures.one
+    c.in_ok-all_forward-2.ensures.keeps c.in_ok-all_forward-2.ensures.found (corner_at c.all_forward-2.new.blocks 0 1 2 3) c.join_numbers.ensures.grows c.join_numbers.ensures.one
 
 pub returns-clause-found : goal.returns-clause-found
 returns-clause-found g c =
-    let ends = c.all_forward-2.new.blocks in
-    let long : length ends ≡ 4 = search rules in
-    let low : (j : ℕ) → j < 4 → j < length ends = λ j below. subst (λ l. j < l) (sym long) below in
-    let listed = corner_at ends 0 1 2 3 (low 0 (lit< tt)) (low 1 (lit< tt)) (low 2 (lit< tt)) (low 3 (lit< tt)) in
     IfOk-weaker c.join_numbers.result _ _
     (λ r is. joined_block c.requires c.nine_blocks-nine.ensures c.in_ok-all_forward.ensures.keeps c.in_ok-all_forward.ensures.found c.four_blocks-fours.ensures
-    c.in_ok-all_forward-2.ensures.keeps c.in_ok-all_forward-2.ensures.found listed c.join_numbers.ensures.grows r is)
+    c.in_ok-all_forward-2.ensures.keeps c.in_ok-all_forward-2.ensures.found (corner_at c.all_forward-2.new.blocks 0 1 2 3) c.join_numbers.ensures.grows r is)
     c.join_numbers.ensures.square

@@ -1,8 +1,8 @@
-use Rattle.std.proofs.Common.{◌<◌, ◌∙◌, arith, rules}
+use Rattle.std.proofs.Common.{◌<◌, ◌∙◌, sym, arith, rules}
 use Rattle.hash_engine.proofs.Standing.{above}
 use Rattle.hash_engine.proofs.Finding.{Keeps-middle, Keeps-noted, IsFound-none, found_still, asks_still, Asks-grown}
 use Rattle.hash_engine.proofs.Making.{MakesFor-none, MakesFor-noted}
-use Rattle.hash_engine.proofs.Computing.{AreDone-all, FirstAreMade-all, turn_made, joined_made, middles_can, middles_found, middles_keeps, turn_can, turn_keeps, turn_asks, turn_done, nine_keeps, nine_can, first_keeps, fours_keeps, fours_can, last_keeps, joined_keeps, joined_all}
+use Rattle.hash_engine.proofs.Computing.{AreDone-all, FirstAreMade-all, turn_made, middles_can, middles_found, middles_keeps, turn_can, turn_keeps, turn_asks, turn_done, nine_keeps, nine_can, first_keeps, fours_keeps, fours_can, last_keeps, joined_keeps, joined_all}
 use Rattle.hash_engine.proofs.later.+forward.Goals as goal
 
 pub all_forward-forward-requires : goal.all_forward-forward-requires
@@ -57,10 +57,8 @@ compute-returns-then-first-ahead-clause-keeps g t c =
 
 pub compute-returns-then-first-ahead-clause-found : goal.compute-returns-then-first-ahead-clause-found
 compute-returns-then-first-ahead-clause-found g t c =
-    let square = middles_found c.requires c.min-first.ensures c.full.ensures c.in_ok-nine.ensures.adds c.in_ok-nine.ensures.squares c.in_ok-all_forward.ensures.keeps c.in_ok-all_forward.ensures.found
-    c.if-first-ahead.true c.join_middles.new.table c.in_ok-join_middles.field-0
-    c.in_ok-join_middles.ensures.square in
-    record { square = square; put = λ is. absurd (cc (is.has.whole, c.if-is_lean-2.true, c.is_lean-is_lean.ensures)) }
+    middles_found c.requires c.min-first.ensures c.full.ensures c.in_ok-nine.ensures.adds c.in_ok-nine.ensures.squares c.in_ok-all_forward.ensures.keeps c.in_ok-all_forward.ensures.found
+    c.if-first-ahead.true (sym c.is_lean-is_lean.ensures ∙ c.if-is_lean-2.true) c.join_middles.new.table c.in_ok-join_middles.field-0 c.in_ok-join_middles.ensures.square
 
 pub compute-returns-in_err-fours-clause-keeps : goal.compute-returns-in_err-fours-clause-keeps
 compute-returns-in_err-fours-clause-keeps g t c =
@@ -88,13 +86,11 @@ compute-returns-in_err-join_numbers-clause-keeps g t c =
 
 pub compute-returns : goal.compute-returns
 compute-returns g t c =
-    let made = joined_made c.requires c.min-first.ensures c.full.ensures c.in_ok-nine.ensures.adds c.in_ok-nine.ensures.squares c.in_ok-all_forward.ensures.keeps c.in_ok-all_forward.ensures.found
-    c.in_ok-fours.ensures.adds c.in_ok-fours.ensures.squares c.in_ok-all_forward-2.ensures.keeps c.in_ok-all_forward-2.ensures.found
-    c.in_ok-join_numbers.ensures.grows c.in_ok-all_forward.ensures.made c.in_ok-all_forward-2.ensures.made _ c.in_ok-join_numbers.ensures.square in
     let all = joined_all c.requires c.min-first.ensures c.full.ensures c.in_ok-nine.ensures.adds c.in_ok-nine.ensures.squares c.in_ok-all_forward.ensures.keeps c.in_ok-all_forward.ensures.found
     c.in_ok-fours.ensures.adds c.in_ok-fours.ensures.squares c.in_ok-all_forward-2.ensures.keeps c.in_ok-all_forward-2.ensures.found
-    c.in_ok-join_numbers.ensures.grows c.in_ok-all_forward.ensures.asks c.in_ok-all_forward-2.ensures.asks c.in_ok-join_numbers.ensures.one c.in_ok-join_numbers.ensures.square in
-    record { keeps = all.0; end = search rules; found = all.1; asks = all.2; made = made }
+    c.in_ok-join_numbers.ensures.grows c.in_ok-all_forward.ensures.asks c.in_ok-all_forward-2.ensures.asks c.in_ok-join_numbers.ensures.one c.in_ok-join_numbers.ensures.square
+    c.in_ok-all_forward.ensures.made c.in_ok-all_forward-2.ensures.made in
+    record { keeps = all.0; end = search rules; found = all.1; asks = all.2; made = all.3 }
 
 pub forward-returns-in_err-middle-clause-keeps : goal.forward-returns-in_err-middle-clause-keeps
 forward-returns-in_err-middle-clause-keeps g t c =
@@ -130,5 +126,5 @@ forward-returns g t c =
       end = search rules;
       found = found_still high grows numbered noted some made.found;
       asks = asks_still high grows numbered noted some made.found made.asks;
-      made = MakesFor-noted c.args.number grows numbered noted made.made;
+      made = MakesFor-noted (g.Q.Ask.meaning c.args.rule.now) c.args.number grows numbered noted made.made;
     }

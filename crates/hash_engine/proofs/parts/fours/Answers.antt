@@ -1,36 +1,10 @@
-use Rattle.std.proofs.Common.{◌≡◌, sym, subst, suc, length, rules}
-use Rattle.square_table.proofs.Shared.Growth.{Grows-same}
-use Rattle.hash_engine.specs.Standing.{StandForAll}
-use Rattle.hash_engine.proofs.Standing.{◌⟫◌, StandsFor-joined, overlap, StandForAll-nil, StandForAll-cons, unchanged, unchanged_by, adds_fours}
+use Rattle.std.proofs.Common.{rules}
+use Rattle.std.proofs.lemmas.Result.{IfOk-weaker}
+use Rattle.hash_engine.proofs.Standing.{overlap}
 use Rattle.hash_engine.proofs.parts.fours.Goals as goal
 
 pub returns-clause-squares : goal.returns-clause-squares
-returns-clause-squares c = λ k ss are.
-    let count : length c.args.nine ≡ 9 = search rules in
-    let nw = c.in_ok-nw.ensures in
-    let ne = c.in_ok-ne.ensures in
-    let sw = c.in_ok-sw.ensures in
-    let se = c.in_ok-se.ensures in
-    let all = c.join_guessed-4.new.self in
-    let q = overlap are count in
-    subst (StandForAll all.rows (suc k) _) (sym q.is)
-    (StandForAll-cons (StandsFor-joined q.nw nw.grows nw.square (ne.grows ⟫ sw.grows ⟫ se.grows))
-    (StandForAll-cons (StandsFor-joined q.ne (nw.grows ⟫ ne.grows) ne.square (sw.grows ⟫ se.grows))
-    (StandForAll-cons (StandsFor-joined q.sw (nw.grows ⟫ ne.grows ⟫ sw.grows) sw.square se.grows)
-    (StandForAll-cons (StandsFor-joined q.se (nw.grows ⟫ ne.grows ⟫ sw.grows ⟫ se.grows) se.square (Grows-same all)) StandForAll-nil))))
-
-pub returns-in_err-ne-clause-adds : goal.returns-in_err-ne-clause-adds
-returns-in_err-ne-clause-adds c =
-    adds_fours (search rules) c.in_ok-nw.ensures.grows c.in_ok-nw.ensures.one c.join_guessed-2.ensures.grows c.join_guessed-2.ensures.one unchanged (unchanged_by _) unchanged (unchanged_by _)
-
-pub returns-in_err-sw-clause-adds : goal.returns-in_err-sw-clause-adds
-returns-in_err-sw-clause-adds c =
-    adds_fours (search rules) c.in_ok-nw.ensures.grows c.in_ok-nw.ensures.one c.in_ok-ne.ensures.grows c.in_ok-ne.ensures.one c.join_guessed-3.ensures.grows c.join_guessed-3.ensures.one unchanged (unchanged_by _)
-
-pub returns-in_err-se-clause-adds : goal.returns-in_err-se-clause-adds
-returns-in_err-se-clause-adds c =
-    adds_fours (search rules) c.in_ok-nw.ensures.grows c.in_ok-nw.ensures.one c.in_ok-ne.ensures.grows c.in_ok-ne.ensures.one c.in_ok-sw.ensures.grows c.in_ok-sw.ensures.one c.join_guessed-4.ensures.grows c.join_guessed-4.ensures.one
+returns-clause-squares c = IfOk-weaker c.join_four.result _ _ (λ ns give k ss are. give k _ (overlap are (search rules))) c.join_four.ensures.squares
 
 pub returns-clause-adds : goal.returns-clause-adds
-returns-clause-adds c =
-    adds_fours (search rules) c.in_ok-nw.ensures.grows c.in_ok-nw.ensures.one c.in_ok-ne.ensures.grows c.in_ok-ne.ensures.one c.in_ok-sw.ensures.grows c.in_ok-sw.ensures.one c.in_ok-se.ensures.grows c.in_ok-se.ensures.one
+returns-clause-adds c = λ k ss are. c.join_four.ensures.adds k _ (overlap are (search rules))

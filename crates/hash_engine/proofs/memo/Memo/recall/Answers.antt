@@ -1,8 +1,8 @@
 use Rattle.std.proofs.Common.{◌^◌, get_or, arith}
 use Rattle.std.proofs.lemmas.Option.{IfSome_then}
 use Rattle.hash_engine.proofs.Shared.{recalled}
-use Rattle.hash_engine.proofs.Finding.{recalled_put}
-use Rattle.hash_engine.proofs.Making.{recalled_made}
+use Rattle.hash_engine.specs.Memo.{WasPut, WasMade}
+use Rattle.hash_engine.proofs.Finding.{recalled_way}
 use Rattle.hash_engine.proofs.memo.Memo.recall.Goals as goal
 
 pub returns-then-generations-full-clause-some : goal.returns-then-generations-full-clause-some
@@ -18,19 +18,19 @@ returns-then-generations-self-clause-some c =
 pub returns-then-generations-full-clause-put : goal.returns-then-generations-full-clause-put
 returns-then-generations-full-clause-put c =
     IfSome_then c.found.result c.found.ensures.some (λ r is next rows has number few.
-    grind (arith, recalled_put next (λ k. 2 ^ k) rows c.args.self.now.full.items c.deref.result.now c.args.k c.args.generations c.args.number r, has.full, is))
+    grind (arith, recalled_way (WasPut next rows c.args.self.now.full.items) (λ k. 2 ^ k) rows c.deref.result.now c.args.k c.args.generations c.args.number r, has.full, is))
 
 pub returns-then-generations-self-clause-put : goal.returns-then-generations-self-clause-put
 returns-then-generations-self-clause-put c =
     IfSome_then c.found-then-generations-self.result c.found-then-generations-self.ensures.some (λ r is next rows has number few.
-    grind (arith, recalled_put next (λ k. get_or c.args.self.now.counts k 0) rows c.args.self.now.full.items c.deref-then-generations-self.result.now c.args.k c.args.generations c.args.number r, has.part, is))
+    grind (arith, recalled_way (WasPut next rows c.args.self.now.full.items) (λ k. get_or c.args.self.now.counts k 0) rows c.deref-then-generations-self.result.now c.args.k c.args.generations c.args.number r, has.part, is))
 
 pub returns-then-generations-full-clause-made : goal.returns-then-generations-full-clause-made
 returns-then-generations-full-clause-made c =
     IfSome_then c.found.result c.found.ensures.some (λ r is next rows has number.
-    grind (arith, recalled_made next (λ k. 2 ^ k) rows c.deref.result.now c.args.k c.args.generations c.args.number r, has.full, is))
+    grind (arith, recalled_way (WasMade next rows) (λ k. 2 ^ k) rows c.deref.result.now c.args.k c.args.generations c.args.number r, has.full, is))
 
 pub returns-then-generations-self-clause-made : goal.returns-then-generations-self-clause-made
 returns-then-generations-self-clause-made c =
     IfSome_then c.found-then-generations-self.result c.found-then-generations-self.ensures.some (λ r is next rows has number.
-    grind (arith, recalled_made next (λ k. get_or c.args.self.now.counts k 0) rows c.deref-then-generations-self.result.now c.args.k c.args.generations c.args.number r, has.part, is))
+    grind (arith, recalled_way (WasMade next rows) (λ k. get_or c.args.self.now.counts k 0) rows c.deref-then-generations-self.result.now c.args.k c.args.generations c.args.number r, has.part, is))
