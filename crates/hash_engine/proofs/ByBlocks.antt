@@ -1,5 +1,5 @@
 -- The result of a square of 8 by 8 cells by blocks of 4 by 4.
-use Rattle.std.proofs.Common.{◌≡◌, ℕ, ◌+◌, ◌-◌, ◌<◌, ◌^◌, min, List, [], ◌∷◌, length, get_or, map, sym, ◌∙◌, refl, ap, subst, arith, inl, inr}
+use Rattle.std.proofs.Common.{◌≡◌, ℕ, ◌+◌, ◌-◌, ◌<◌, min, List, [], ◌∷◌, length, get_or, map, sym, ◌∙◌, refl, ap, subst, arith, inl, inr}
 use Rattle.std.proofs.Math.ListN.{set}
 use Rattle.std.specs.Prelude.{Contains, All}
 use Rattle.std.proofs.lemmas.Bool.{cases_eq}
@@ -22,8 +22,7 @@ use Rattle.hash_engine.specs.Search.{sought, KeepsOnWay, CanCompute, CanSeekBloc
 use Rattle.hash_engine.specs.declared.block.Block.{Block}
 use Rattle.hash_engine.specs.declared.memo.Memo.{Memo}
 use Rattle.hash_engine.proofs.Standing.{corner, StandsFor-grows, StandsFor-joined, Adds-made}
-use Rattle.hash_engine.proofs.Shared.{IsRight-grows}
-use Rattle.hash_engine.proofs.Finding.{Keeps-grown, Keeps-then, adds_result}
+use Rattle.hash_engine.proofs.Finding.{same_rule, Keeps-adds, Keeps-grown, Keeps-then, one_result}
 use Rattle.hash_engine.proofs.Computing.{four_results, makes_parts, puts_parts}
 
 -- what follows of a way
@@ -47,12 +46,7 @@ later_of-grows next generations t u quadrants grows are = ap (result next 0 gene
 module _ (next : List ℕ → ℕ) (generations : ℕ) (t : Table) (quadrants : List ℕ) {new : List ℕ → ℕ} {c d : ℕ} {s : Square} {u : Table} {memo : Memo}
     (is : s ≡ later_of next generations t quadrants) (rule : IsSameRule next new c d) (adds : Adds (s ∷ []) t u) (right : IsRightMemo next t.rows memo) where
   pub keeps_block : KeepsOnWay next new c d (λ P. P (later_of next generations t quadrants)) t u memo
-  keeps_block = record {
-    rule = rule;
-    grows = adds.grows;
-    right = IsRight-grows next t u memo adds.grows right;
-    adds = λ all way are. adds.among all (All-cons (Contains all) s [] (subst (Contains all) (sym is) way) (All-nil (Contains all))) are;
-  }
+  keeps_block = Keeps-adds rule right adds (λ all way. All-cons (Contains all) s [] (subst (Contains all) (sym is) way) (All-nil (Contains all)))
 
 -- the block that is put to the rule, and its result
 pub known_block : {next : List ℕ → ℕ} {t u : Table} {b : Block} → AreNumbers t.rows 1 b.quadrants → Grows t u →
@@ -158,7 +152,7 @@ module _ {next : List ℕ → ℕ} {c : ℕ} {t : Table} {memo : Memo} {ahead nu
   -- the nine
   module _ {nine : List Block} (are : AreBlocks t.rows nine (nine_of s)) where
     pub nine_can : CanSeekBlocks next c t memo 1 nine
-    nine_can = can_all (record { meaning = refl; states = refl }) can.seek.right are (puts_parts can is_first refl (IsBelow c) can.seek.ready.below).0
+    nine_can = can_all (same_rule next c) can.seek.right are (puts_parts can is_first refl (IsBelow c) can.seek.ready.below).0
 
     -- their results
     module _ {mid : List ℕ → ℕ} {d : ℕ} {u : Table} {after : Memo}
@@ -196,4 +190,4 @@ module _ {next : List ℕ → ℕ} {c : ℕ} {t : Table} {memo : Memo} {ahead nu
             joined_block r is = subst (StandsFor w.rows 2 r) four_ends.1 (StandsFor-joined four_ends.0 grows is (Grows-same w))
 
             pub joined_keeps : GrowsBy kids v w → KeepsOnWay next new c n (Makes next 1 ahead s) t w last
-            joined_keeps step = Keeps-grown last_keeps grows (adds_result next 1 ahead s four_ends.1 (Adds-made four_ends.0 grows step))
+            joined_keeps step = Keeps-grown last_keeps (Adds-made four_ends.0 grows step) (one_result next 1 ahead s four_ends.1)

@@ -12,7 +12,7 @@ use Rattle.hash_life.specs.Makes.{Makes}
 use Rattle.hash_engine.specs.declared.memo.Memo.{Memo}
 use Rattle.hash_engine.specs.Search.{CanSeek, CanSeekAll, sought, MakesAll, PutsAll, KeepsOnWay, Asks, IsCounted, IsFound, FirstAreFound, FindsForAll, CanCompute, MakesFor, MakesForAll}
 use Rattle.hash_engine.proofs.Making.{HasMade-grows}
-use Rattle.hash_engine.proofs.Finding.{HasPut-grows, Keeps-made, Keeps-grown, Keeps-then, IsFound-then, made_of, adds_result, StandForAll-found, by_number, by_square, by_found, Asks-then, Asks-grown, Asks-next, IsPut-grows}
+use Rattle.hash_engine.proofs.Finding.{HasPut-grows, same_rule, Keeps-adds, Keeps-grown, Keeps-then, IsFound-then, made_of, one_result, StandForAll-found, by_number, by_square, by_found, Asks-then, Asks-grown, Asks-next, IsPut-grows}
 use Rattle.std.proofs.lemmas.List.Elements.{All-weaker, All-cons}
 use Rattle.worlds.specs.Square.{Square, one, four}
 use Rattle.square_table.specs.Made.{IsMade}
@@ -167,9 +167,8 @@ module _ {next : List ℕ → ℕ} {c : ℕ} {t : Table} {memo : Memo} {k ahead 
   -- the nine
   module _ {a : Table} (adds : AddsOf nine_of t number a) where
     pub nine_keeps : KeepsOnWay next next c c (Makes next k ahead s) t a memo
-    nine_keeps = Keeps-made (adds k s stands).grows can.seek.right (λ all way.
-        (adds k s stands).among all
-        (All-weaker _ _ (λ q. Makes-itself next (k - 1) first q (Contains all)) (nine_of s) (makes_parts (Contains all) way).0))
+    nine_keeps = Keeps-adds (same_rule next c) can.seek.right (adds k s stands)
+        (λ all way. All-weaker _ _ (λ q. Makes-itself next (k - 1) first q (Contains all)) (nine_of s) (makes_parts (Contains all) way).0)
 
     module _ {nine : List ℕ} (give : GiveAllOf nine_of t number a nine) where
       nine_are : StandForAll a.rows (suc (suc (k - 1))) nine (nine_of s)
@@ -216,13 +215,11 @@ module _ {next : List ℕ → ℕ} {c : ℕ} {t : Table} {memo : Memo} {k ahead 
           }
 
           pub middles_keeps : {e : Table} → AddsMiddles b results e → KeepsOnWay next mid c d (Makes next k ahead s) t e after
-          middles_keeps {e} adds =
-              let made = adds (k - 1) _ nine_results in
-              Keeps-grown first_keeps made.grows (λ all way.
+          middles_keeps {e} adds = Keeps-grown first_keeps (adds (k - 1) _ nine_results) (λ all way.
               let whole = subst (Contains all) (sym middles_are) (Makes-result next k ahead s (Contains all) way) in
               let parts = subst (λ m. All (λ q. Makes next (k - 1) m q (Contains all)) fours) left (makes_parts (Contains all) way).1 in
               let each = All-weaker _ _ (λ q makes. subst (Contains all) (result-none next (k - 1) q) (Makes-result next (k - 1) 0 q (Contains all) makes)) fours parts in
-              made.among all (All-cons (Contains all) _ _ whole (All-map middle (Contains all) fours each)))
+              All-cons (Contains all) _ _ whole (All-map middle (Contains all) fours each))
 
         -- the four of these
         module _ {results : List ℕ} {e : Table} (one_finds : FindsForAll next (k - 1) first nine a memo b after results)
@@ -234,9 +231,8 @@ module _ {next : List ℕ → ℕ} {c : ℕ} {t : Table} {memo : Memo} {k ahead 
           be = (adds_four (suc (k - 1)) _ results_are).grows
 
           pub fours_keeps : KeepsOnWay next mid c d (Makes next k ahead s) t e after
-          fours_keeps = Keeps-grown first_keeps be (λ all way.
-              (adds_four (suc (k - 1)) _ results_are).among all
-              (All-weaker _ _ (λ q. Makes-itself next (k - 1) (ahead - first) q (Contains all)) fours (makes_parts (Contains all) way).1))
+          fours_keeps = Keeps-grown first_keeps (adds_four (suc (k - 1)) _ results_are)
+              (λ all way. All-weaker _ _ (λ q. Makes-itself next (k - 1) (ahead - first) q (Contains all)) fours (makes_parts (Contains all) way).1)
 
           module _ {four_numbers : List ℕ} (give_four : GiveFours b results e four_numbers) where
             fours_are : StandForAll e.rows (suc (suc (k - 1))) four_numbers fours
@@ -269,8 +265,7 @@ module _ {next : List ℕ → ℕ} {c : ℕ} {t : Table} {memo : Memo} {k ahead 
                 joined r is = let whole = StandsFor-joined four_ends.0 fg is (Grows-same g) in grind (arith, whole, four_ends.1, is_k)
 
                 pub joined_keeps : GrowsBy ends f g → KeepsOnWay next new c n (Makes next k ahead s) t g last
-                joined_keeps step =
-                    Keeps-grown last_keeps fg (adds_result next k ahead s four_ends.1 (Adds-made four_ends.0 fg step))
+                joined_keeps step = Keeps-grown last_keeps (Adds-made four_ends.0 fg step) (one_result next k ahead s four_ends.1)
 
                 -- what is made on the way is there in the end
                 joined_made : MakesForAll next (k - 1) first nine a memo b after →

@@ -1,5 +1,5 @@
 -- What a search puts to the rule, keeps and finds, step by step.
-use Rattle.std.proofs.Common.{◌≡◌, ℕ, suc, ◌+◌, ◌-◌, ◌*◌, ◌<◌, ◌≤◌, ◌^◌, List, length, get_or, sym, ◌∙◌, ap, subst, arith, inl, inr, [], ◌∷◌, map}
+use Rattle.std.proofs.Common.{◌≡◌, ℕ, suc, ◌+◌, ◌-◌, ◌*◌, ◌<◌, ◌≤◌, ◌^◌, List, length, get_or, refl, sym, ◌∙◌, ap, subst, arith, inl, inr, [], ◌∷◌, map}
 use Rattle.std.specs.Prelude.{Contains, ◌≢◌, All}
 use Rattle.std.proofs.lemmas.Bool.{cases_eq}
 use Rattle.worlds.specs.Square.{Square, one}
@@ -15,11 +15,11 @@ use Rattle.hash_engine.specs.Memo.{AreKnown, IsRightMemo, IsPut, AreWays, HasWay
 use Rattle.hash_engine.specs.Asked.{is_put, places_put}
 use Rattle.hash_engine.specs.Search.{sought, Asks, KeepsOnWay, CanSeek, IsCounted, IsFound, FindsForAll}
 use Rattle.hash_engine.specs.declared.memo.Memo.{Memo}
-use Rattle.hash_engine.specs.Found.{CanBeAsked}
+use Rattle.hash_engine.specs.Found.{CanBeAsked, IsSameRule}
 use Rattle.hash_engine.proofs.Standing.{above, within, below_some, StandsFor-itself, StandsFor-grows}
 use Rattle.hash_engine.proofs.Picked.{picked-same, picked-more}
 use Rattle.hash_engine.proofs.Shared.{IsRight-grows, is_put-none, is_put-two, is_put-more, is_put-agrees, count-grows, others}
-use Rattle.square_table.specs.Made.{AreAmong, IsMade, Adds}
+use Rattle.square_table.specs.Made.{IsMade, Adds}
 use Rattle.std.proofs.lemmas.List.{length-map, get_or-map}
 use Rattle.std.proofs.lemmas.List.Elements.{All-nil, All-cons}
 use Rattle.hash_life.specs.Result.{middle, later, result}
@@ -182,16 +182,29 @@ module _ {t u : Table} {generations n r : ℕ} {old new : Memo} (one : 0 < gener
       (Asks-noted u (IsNumber-grows t u 2 n grows was) is some next way (omega (arith, four, more)) (HasPut-grows next t u old grows right has)
       (λ all on_way two. subst (Contains all) (sym same) (Puts-itself next generations (sought t 0 n) (Contains all) one on_way)))
 
--- the table alone grew
-pub Keeps-made : {next : List ℕ → ℕ} {count : ℕ} {Way : (Square → Type 0) → Type 0} {t u : Table} {memo : Memo} → Grows t u → IsRightMemo next t.rows memo →
-    ((all : List Square) → Way (Contains all) → AreAmong all t.rows → AreAmong all u.rows) → KeepsOnWay next next count count Way t u memo
-Keeps-made {next} {count} {Way} {t} {u} {memo} grows right adds = grind (arith, IsRight-grows next t u memo grows right)
+pub same_rule : (next : List ℕ → ℕ) (c : ℕ) → IsSameRule next next c c
+same_rule next c = record { meaning = refl; states = refl }
 
--- and then the table alone grew
-pub Keeps-grown : {next new : List ℕ → ℕ} {c d : ℕ} {Way : (Square → Type 0) → Type 0} {t u v : Table} {memo : Memo} →
-    KeepsOnWay next new c d Way t u memo → Grows u v → ((all : List Square) → Way (Contains all) → AreAmong all u.rows → AreAmong all v.rows) → KeepsOnWay next new c d Way t v memo
-Keeps-grown {next} {new} {c} {d} {Way} {t} {u} {v} {memo} keeps grows adds =
-    grind (arith, Grows-then, IsRight-grows next u v memo grows keeps.right)
+-- the table has squares on the way more, or none
+pub Keeps-adds : {next new : List ℕ → ℕ} {c d : ℕ} {Way : (Square → Type 0) → Type 0} {made : List Square} {t u : Table} {memo : Memo} →
+    IsSameRule next new c d → IsRightMemo next t.rows memo → Adds made t u → ((all : List Square) → Way (Contains all) → All (Contains all) made) →
+    KeepsOnWay next new c d Way t u memo
+Keeps-adds {next} {new} {c} {d} {Way} {made} {t} {u} {memo} rule right adds so = record {
+  rule = rule;
+  grows = adds.grows;
+  right = IsRight-grows next t u memo adds.grows right;
+  adds = λ all way. adds.among all (so all way);
+}
+
+-- and then they are more
+pub Keeps-grown : {next new : List ℕ → ℕ} {c d : ℕ} {Way : (Square → Type 0) → Type 0} {made : List Square} {t u v : Table} {memo : Memo} →
+    KeepsOnWay next new c d Way t u memo → Adds made u v → ((all : List Square) → Way (Contains all) → All (Contains all) made) → KeepsOnWay next new c d Way t v memo
+Keeps-grown {next} {new} {c} {d} {Way} {made} {t} {u} {v} {memo} keeps adds so = record {
+  rule = keeps.rule;
+  grows = Grows-then t u v keeps.grows adds.grows;
+  right = IsRight-grows next u v memo adds.grows keeps.right;
+  adds = λ all way are. adds.among all (so all way) (keeps.adds all way are);
+}
 
 -- and then it went on with what is on the way
 pub Keeps-then : {next mid new : List ℕ → ℕ} {c d e : ℕ} {Way Rest : (Square → Type 0) → Type 0}
@@ -203,10 +216,11 @@ Keeps-then {next} {mid} {new} {c} {d} {e} {Way} {Rest} {t} {u} {v} {memo} {more}
 pub made_of : {rows : List (List ℕ)} {k n : ℕ} {s : Square} → StandsFor rows (suc k) n s → IsMade rows s
 made_of {rows} {k} {n} {s} is = record { level = k; number = n; numbered = is.numbered; square = is.square }
 
--- what adds the result alone adds what is on the way
-pub adds_result : (next : List ℕ → ℕ) (k generations : ℕ) (s : Square) {r : Square} {t u : Table} → r ≡ result next k generations s → Adds (r ∷ []) t u →
-    (all : List Square) → Makes next k generations s (Contains all) → AreAmong all t.rows → AreAmong all u.rows
-adds_result next k generations s {r} {t} {u} is adds all way are = grind (arith, Makes-result, All-cons, All-nil)
+-- the result is on the way
+pub one_result : (next : List ℕ → ℕ) (k generations : ℕ) (s : Square) {r : Square} → r ≡ result next k generations s →
+    (all : List Square) → Makes next k generations s (Contains all) → All (Contains all) (r ∷ [])
+one_result next k generations s {r} is all way =
+    All-cons (Contains all) r [] (subst (Contains all) (sym is) (Makes-result next k generations s (Contains all) way)) (All-nil (Contains all))
 
 -- that of the root of a search can be sought
 pub CanSeek-root : {next : List ℕ → ℕ} {c : ℕ} {t : Table} {memo : Memo} {root : handles.Square} {generations level n : ℕ} → CanBeAsked c t root →
@@ -222,8 +236,7 @@ pub Keeps-middle : (k n : ℕ) {next : List ℕ → ℕ} {c ahead : ℕ} {t u : 
 Keeps-middle k n {next} {c} {ahead} {t} none right numbered adds =
     let s = sought t k n in
     let is : middle s ≡ result next k ahead s = grind (arith, none, result-none next k s) in
-    let made = adds k s (StandsFor-itself t.rows (suc (suc k)) n numbered) in
-    Keeps-made made.grows right (adds_result next k ahead s is made)
+    Keeps-adds (same_rule next c) right (adds k s (StandsFor-itself t.rows (suc (suc k)) n numbered)) (one_result next k ahead s is)
 
 pub IsFound-none : {next : List ℕ → ℕ} {Counted : Type 0} {k generations n r : ℕ} {t u : Table} {memo : Memo} → generations ≡ 0 → Grows t u →
     IsNumber t.rows (suc (suc k)) n → GivesOf middle t n u r → IsFound next Counted k generations (sought t k n) u memo r

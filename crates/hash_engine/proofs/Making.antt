@@ -1,12 +1,9 @@
 -- What is made on the ways to results is there.
-use Rattle.std.proofs.Common.{◌≡◌, ℕ, suc, ◌+◌, ◌-◌, ◌<◌, ◌≤◌, ◌^◌, List, get_or, sym, ◌∙◌, subst, arith}
-use Rattle.std.specs.Prelude.{◌≢◌}
-use Rattle.std.proofs.lemmas.Bool.{cases_eq}
-use Rattle.square_table.specs.Squares.{Table, IsNumber, square_in, first_number, Grows}
+use Rattle.std.proofs.Common.{◌≡◌, ℕ, suc, ◌-◌, ◌<◌, List, sym, subst}
+use Rattle.square_table.specs.Squares.{Table, IsNumber, Grows}
 use Rattle.square_table.specs.Made.{IsMade}
 use Rattle.square_table.proofs.Shared.Growth.{IsNumber-grows, square_in-grows}
 use Rattle.square_table.proofs.Shared.Making.{IsMade-grows}
-use Rattle.square_table.proofs.Shared.Numbers.{one_level}
 use Rattle.hash_life.specs.Result.{middle, later}
 use Rattle.hash_life.specs.Makes.{Makes}
 use Rattle.hash_life.proofs.Shared.InTwo.{result-none, result-later}
@@ -16,7 +13,7 @@ use Rattle.hash_engine.specs.Adding.{GivesOf}
 use Rattle.hash_engine.specs.Memo.{IsRightMemo, HasMade, IsRemembered}
 use Rattle.hash_engine.specs.Search.{sought, MakesFor}
 use Rattle.hash_engine.specs.declared.memo.Memo.{Memo}
-use Rattle.hash_engine.proofs.Standing.{above, StandsFor-itself, StandsFor-grows}
+use Rattle.hash_engine.proofs.Standing.{StandsFor-itself, StandsFor-grows}
 use Rattle.hash_engine.proofs.Finding.{HasWays-grows, HasWays-noted, made_of}
 
 -- it is in a table that grew
@@ -34,21 +31,7 @@ MakesFor-none k n {next} {generations} {r} {t} {u} {memo} none grows right numbe
     let made = Makes-none next k s (IsMade u.rows) (made_of (StandsFor-grows t u (suc (suc k)) n s grows stands)) (made_of found) in
     (HasMade-grows next t u memo grows right has, subst (λ g. Makes next k g s (IsMade u.rows)) (sym none) made)
 
--- for a square of 4 by 4 cells, which is put to the rule, and its result remembered
-pub MakesFor-put : (n : ℕ) {next : List ℕ → ℕ} {generations r : ℕ} {t u : Table} {old new : Memo} → 0 < generations → Grows t u → IsRightMemo next t.rows old →
-    IsNumber t.rows 2 n → StandsFor u.rows 1 r (later next (sought t 0 n)) → IsRemembered 0 generations n r old new → MakesFor next 0 generations n t old u new
-MakesFor-put n {next} {generations} {r} {t} {u} {old} {new} some grows right numbered found is has =
-    let s = sought t 0 n in
-    let square = subst (StandsFor u.rows 1 r) (sym (result-later next generations s some)) found in
-    let whole = made_of (StandsFor-grows t u 2 n s grows (StandsFor-itself t.rows 2 n numbered)) in
-    let made = Makes-last next generations s (IsMade u.rows) whole (made_of square) in
-    let same = sym (square_in-grows t u 2 n grows numbered) in (
-      HasWays-noted u (IsNumber-grows t u 2 n grows numbered) is (λ l m q was. was) (subst (λ q. Makes next 0 generations q (IsMade u.rows)) same made)
-          (HasMade-grows next t u old grows right has),
-      made,
-    )
-
--- above level 2 it is remembered
+-- and then it was remembered
 pub MakesFor-noted : (next : List ℕ → ℕ) (n : ℕ) {k generations r : ℕ} {t u : Table} {old mid new : Memo} → Grows t u → IsNumber t.rows (suc (suc k)) n →
     IsRemembered k generations n r mid new → MakesFor next k generations n t old u mid → MakesFor next k generations n t old u new
 MakesFor-noted next n {k} {generations} {r} {t} {u} grows numbered is makes has =
@@ -56,3 +39,13 @@ MakesFor-noted next n {k} {generations} {r} {t} {u} grows numbered is makes has 
     let same = sym (square_in-grows t u (suc (suc k)) n grows numbered) in
     let way = subst (λ q. Makes next k generations q (IsMade u.rows)) same all.1 in
     (HasWays-noted u (IsNumber-grows t u (suc (suc k)) n grows numbered) is (λ l m q was. was) way all.0, all.1)
+
+-- for a square of 4 by 4 cells, which is put to the rule, and its result remembered
+pub MakesFor-put : (n : ℕ) {next : List ℕ → ℕ} {generations r : ℕ} {t u : Table} {old new : Memo} → 0 < generations → Grows t u → IsRightMemo next t.rows old →
+    IsNumber t.rows 2 n → StandsFor u.rows 1 r (later next (sought t 0 n)) → IsRemembered 0 generations n r old new → MakesFor next 0 generations n t old u new
+MakesFor-put n {next} {generations} {r} {t} {u} {old} some grows right numbered found is =
+    let s = sought t 0 n in
+    let square = subst (StandsFor u.rows 1 r) (sym (result-later next generations s some)) found in
+    let whole = made_of (StandsFor-grows t u 2 n s grows (StandsFor-itself t.rows 2 n numbered)) in
+    MakesFor-noted next n {mid = old} grows numbered is
+    (λ has. (HasMade-grows next t u old grows right has, Makes-last next generations s (IsMade u.rows) whole (made_of square)))

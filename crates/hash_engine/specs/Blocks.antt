@@ -25,7 +25,7 @@ pub record AreKnownBlocks (next : List ℕ → ℕ) (rows : List (List ℕ)) (bl
     : Type 0 where
   pub each : (i : ℕ) → IsKnownBlock next rows (get_or blocks i no_block)
 
--- r is the number of the result of the block with these quadrants, if those of these blocks are right
+-- r is the number of the result of the block with these quadrants, if these blocks are right
 abbrev pub IsRecalledOf : List Block → List ℕ → ℕ → Type 0
 IsRecalledOf blocks quadrants = λ r. (next : List ℕ → ℕ) (rows : List (List ℕ)) →
     AreKnownBlocks next rows blocks → IsLaterOf next rows quadrants r

@@ -1,16 +1,17 @@
-use Rattle.std.proofs.Common.{◌∙◌, ◌<◌, sym, subst, lit<, arith, refl}
+use Rattle.std.proofs.Common.{◌∙◌, ◌<◌, sym, subst, lit<, arith}
 use Rattle.std.specs.Prelude.{Contains}
 use Rattle.std.proofs.lemmas.Result.{IfOk-weaker}
 use Rattle.hash_life.proofs.Shared.InTwo.{Puts-itself}
 use Rattle.hash_life.proofs.Shared.Put.{Puts-last}
 use Rattle.hash_engine.specs.Standing.{StandsFor}
+use Rattle.hash_engine.proofs.Finding.{same_rule}
 use Rattle.hash_engine.proofs.ByBlocks.{Keeps-way, result_none, result_some, keeps_block}
 use Rattle.hash_engine.proofs.eight.forward.Goals as goal
 
 pub returns-then-ahead-eq0-clause-keeps : goal.returns-then-ahead-eq0-clause-keeps
 returns-then-ahead-eq0-clause-keeps g c =
     keeps_block (g.Q.Ask.meaning c.args.rule.now) c.args.ahead c.args.table.now c.args.quadrants (result_none _ _ c.if-ahead-eq0.true)
-    (record { meaning = refl; states = refl }) (c.middle_of.ensures.adds 0 c.requires.ready.numbered) c.requires.right
+    (same_rule _ _) (c.middle_of.ensures.adds 0 c.requires.ready.numbered) c.requires.right
 
 pub returns-then-ahead-eq0-clause-found : goal.returns-then-ahead-eq0-clause-found
 returns-then-ahead-eq0-clause-found g c = IfOk-weaker c.middle_of.result _ _

@@ -6,7 +6,9 @@ use Rattle.hash_engine.proofs.Computing.{AreDone-all, FirstAreMade-all, turn_mad
 use Rattle.hash_engine.proofs.later.+forward.Goals as goal
 
 pub all_forward-forward-requires : goal.all_forward-forward-requires
-all_forward-forward-requires g t c κs within = search (rules, turn_can)
+all_forward-forward-requires g t c κs within =
+    let can = turn_can c.requires c.loop-number-test.true c.loop-number.invariant.keeps c.loop-number.invariant.done in
+    search rules
 
 pub all_forward-loop-number-preserved : goal.all_forward-loop-number-preserved
 all_forward-loop-number-preserved g t c =
@@ -22,17 +24,18 @@ all_forward-loop-number-preserved g t c =
     }
 
 pub all_forward-returns-in_err-number-clause-keeps : goal.all_forward-returns-in_err-number-clause-keeps
-all_forward-returns-in_err-number-clause-keeps g t c = search (rules, turn_keeps)
+all_forward-returns-in_err-number-clause-keeps g t c =
+    turn_keeps c.requires c.loop-number-test.true c.loop-number.invariant.keeps c.loop-number.invariant.done c.forward.ensures.keeps
 
 pub all_forward-returns-clause-found : goal.all_forward-returns-clause-found
-all_forward-returns-clause-found g t c = search (rules, AreDone-all)
+all_forward-returns-clause-found g t c = AreDone-all c.loop-number.invariant.done c.loop-number-test.false
 
 pub all_forward-returns-clause-made : goal.all_forward-returns-clause-made
 all_forward-returns-clause-made g t c =
-    FirstAreMade-all (g.Q.Ask.meaning c.args.rule.now) c.args.k c.args.ahead c.args.numbers.now c.args.table.now c.loop-number.table c.loop-number.invariant.made (search rules)
+    FirstAreMade-all (g.Q.Ask.meaning c.args.rule.now) c.args.k c.args.ahead c.args.numbers.now c.args.table.now c.loop-number.table c.loop-number.invariant.made c.loop-number-test.false
 
 pub compute-returns-in_err-nine-clause-keeps : goal.compute-returns-in_err-nine-clause-keeps
-compute-returns-in_err-nine-clause-keeps g t c = search (rules, nine_keeps)
+compute-returns-in_err-nine-clause-keeps g t c = nine_keeps c.requires c.min-first.ensures c.full.ensures c.nine.ensures.adds
 
 pub compute-all_forward-requires : goal.compute-all_forward-requires
 compute-all_forward-requires g t c κs within = let can = nine_can c.requires c.min-first.ensures c.full.ensures c.in_ok-nine.ensures.adds c.in_ok-nine.ensures.squares in search rules

@@ -9,8 +9,7 @@ use Rattle.hash_engine.specs.Memo.{IsRightMemo}
 use Rattle.hash_engine.specs.Search.{sought, KeepsOnWay, IsCounted}
 use Rattle.hash_engine.specs.declared.memo.Memo.{Memo}
 use Rattle.hash_engine.proofs.Standing.{above}
-use Rattle.hash_engine.proofs.Shared.{IsRight-grows}
-use Rattle.hash_engine.proofs.Finding.{Keeps-noted, adds_result, IsFound-put, IsPut-noted, Asks-put}
+use Rattle.hash_engine.proofs.Finding.{Keeps-noted, Keeps-adds, one_result, IsFound-put, IsPut-noted, Asks-put}
 use Rattle.hash_engine.proofs.Making.{MakesFor-put}
 use Rattle.hash_engine.proofs.later.put.Goals as goal
 
@@ -21,8 +20,7 @@ later-requires g c = search (rules, Puts-itself)
 asked : (n : ℕ) {next new : List ℕ → ℕ} {c d ahead : ℕ} {t u : Table} {memo : Memo} → 0 < ahead → IsSameRule next new c d →
     Adds (later next (sought t 0 n) ∷ []) t u → IsRightMemo next t.rows memo → KeepsOnWay next new c d (Makes next 0 ahead (sought t 0 n)) t u memo
 asked n {next} {new} {c} {d} {ahead} {t} {u} {memo} some rule adds right =
-    let made = adds_result next 0 ahead (sought t 0 n) (sym (result-later next ahead (sought t 0 n) some)) adds in
-    grind (arith, made, adds.grows, IsRight-grows next t u memo adds.grows right)
+    Keeps-adds rule right adds (one_result next 0 ahead (sought t 0 n) (sym (result-later next ahead (sought t 0 n) some)))
 
 pub returns-in_err-made-clause-keeps : goal.returns-in_err-made-clause-keeps
 returns-in_err-made-clause-keeps g c = search (rules, asked)

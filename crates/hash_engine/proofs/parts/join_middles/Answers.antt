@@ -6,11 +6,14 @@ use Rattle.hash_life.specs.Result.{middle}
 use Rattle.hash_life.specs.Puts.{fours_of}
 use Rattle.hash_engine.specs.Standing.{StandsFor, StandForAll}
 use Rattle.hash_engine.specs.Adding.{square_of_four}
-use Rattle.hash_engine.proofs.Standing.{StandsFor-joined, Adds-behind, first_listed, more_of, four_stand}
+use Rattle.hash_engine.proofs.Standing.{◌⟫◌, StandsFor-joined, Adds-behind, first_listed, more_of, four_stand}
 use Rattle.hash_engine.proofs.parts.join_middles.Goals as goal
 
 pub returns-in_err-four-clause-adds : goal.returns-in_err-four-clause-adds
 returns-in_err-four-clause-adds c = λ k ss are. Adds-behind (c.join_four.ensures.adds k _ (c.middles.ensures k ss are))
+
+pub returns-clause-grows : goal.returns-clause-grows
+returns-clause-grows c = c.in_ok-four.ensures.grows ⟫ c.join_numbers.ensures.grows
 
 pub returns-clause-square : goal.returns-clause-square
 returns-clause-square c = IfOk-weaker c.join_numbers.result _ _
