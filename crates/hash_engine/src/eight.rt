@@ -85,7 +85,6 @@ fn all_forward<Q: Ask>(
 }
 
 /// The result of a square of 8 by 8 cells.
-// Inlined into `compute` it makes that slower, for one pattern by 5 to 10 %.
 #[inline(never)]
 pub(crate) fn eight<Q: Ask>(
     table: &mut SquareTable<'_>,

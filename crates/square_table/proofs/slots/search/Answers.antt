@@ -31,4 +31,6 @@ loop-preserved c =
 
 pub returns-clause-absent : goal.returns-clause-absent
 returns-clause-absent c =
-    lacks_passed c.args.rows.now c.args.slots.now c.args.kids.now c.args.mark c.loop.counter (record { mark = 0; row = 0 }) c.requires.finds c.requires.mark c.loop.invariant.passed (inl (omega (arith, c.loop-test.false, c.loop.auto.counter-end)))
+    let free : Slot = record { mark = 0; row = 0 } in
+    let passed = c.loop.invariant.passed in
+    lacks_passed c.args.rows.now c.args.slots.now c.args.kids.now c.args.mark c.loop.counter free c.requires.finds c.requires.mark passed (inl (omega (arith, c.loop-test.false, c.loop.auto.counter-end)))

@@ -23,4 +23,6 @@ loop-slot-preserved c =
     }
 
 pub returns-clause-finds : goal.returns-clause-finds
-returns-clause-finds c is rows n finds = spread_all rows n c.args.slots.now c.loop-slot.wider c.loop-slot.slot-index finds (c.loop-slot.invariant.spread rows n finds) (omega (arith, c.loop-slot-test.false)) (omega (arith, c.requires.some, c.loop-slot.invariant.count))
+returns-clause-finds c is rows n finds =
+    let spread = c.loop-slot.invariant.spread rows n finds in
+    spread_all rows n c.args.slots.now c.loop-slot.wider c.loop-slot.slot-index finds spread (omega (arith, c.loop-slot-test.false)) (omega (arith, c.requires.some, c.loop-slot.invariant.count))
