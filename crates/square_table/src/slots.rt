@@ -1,24 +1,54 @@
 //! A hash table by open addressing with linear probing (Knuth, volume 3, section 6.4, algorithm L),
 //! whose slots lead to the rows of a table.
-ghost use Rattle.std.specs.Prelude.{◌≡◌, ℕ, ◌^◌, ◌<◌, ◌≤◌, ◌+◌, List, [], ◌∷◌, ◌++◌, length, IfOk, IfErr, IfSome, OnOk, OnErr, vec_len, IsTrue, ◌↔◌};
+ghost use Rattle.std.specs.Prelude.{◌≡◌, ℕ, ◌^◌, ◌<◌, ◌≤◌, ◌+◌, [], ◌∷◌, ◌++◌, length, IfOk, IfErr, IfSome, OnOk, OnErr, vec_len, IsTrue, ◌↔◌};
 ghost use Rattle.square_table.specs.Squares.{Lacks};
-ghost use Rattle.square_table.specs.Slots.{mark_of, first_of, next_of, AreEmpty, AreWithin, FindsRows, IsFreeFor, IsRowOf};
-ghost use Rattle.square_table.specs.declared.slots.Slot.{Slot};
+ghost use Rattle.square_table.specs.Slots.{mark_of, tag_of, tag_in, row_in, row_range, first_of, next_of, AreEmpty, AreWithin, FindsRows, IsFreeFor, IsRowOf};
 
 use std::alloc::{AllocError, Global};
 
 // More slots than this aren't made: there are never more than half as many rows.
 const MOST_SLOTS: usize = 1 << 25;
 
-/// A row's place and one more, or 0 where the slot is free; and the mark of the row's quadrants, so
-/// that hardly a row is read but the one that is looked for.
+// The lower 25 bits of a slot are a row's.
+const ROWS: u32 = 1 << 25;
+
+/// A row's place and one more, or 0 where the slot is free; and above it the tag of the row's mark,
+/// its upper 7 bits, so that hardly a row is read but the one that is looked for. A mark's first slot
+/// goes by the others.
 #[derive(Clone, Copy)]
 pub struct Slot {
-    pub mark: u32,
-    pub row: u32,
+    word: u32,
 }
 
-const FREE: Slot = Slot { mark: 0, row: 0 };
+const FREE: Slot = Slot { word: 0 };
+
+impl Slot {
+    // One that leads to a row, by its place and one more.
+    fn new(mark: u32, row: u32) -> Slot
+        requires { row < row_range }
+        ensures row { row_in result ≡ row }
+        ensures tag { tag_in result ≡ tag_of mark }
+    {
+        Slot {
+            word: mark / ROWS * ROWS + row,
+        }
+    }
+
+    // The place of its row and one more, or 0.
+    fn row(self) -> u32
+        ensures value { result ≡ row_in self }
+        ensures few { result < row_range }
+    {
+        self.word % ROWS
+    }
+
+    // Whether it has a mark's tag.
+    fn has_tag(self, mark: u32) -> bool
+        ensures { IsTrue result ↔ tag_in self ≡ tag_of mark }
+    {
+        self.word / ROWS == mark / ROWS
+    }
+}
 
 /// A mix of the four numbers, where the way of a row through the slots begins: what is folded or
 /// shifted together less mixes worse.
@@ -58,7 +88,7 @@ pub fn is_same(a: &[u32; 4], b: &[u32; 4]) -> bool
     a[0] == b[0] && a[1] == b[1] && a[2] == b[2] && a[3] == b[3]
 }
 
-/// The first row on a mark's way that has this mark, by its place and one more; 0 where there is none.
+/// The first row on a mark's way that has its tag, by its place and one more; 0 where there is none.
 pub fn marked(slots: &[Slot], mark: u32) -> u32
     requires { 0 < length slots.now }
     ensures { (n : ℕ) → AreWithin slots.now n → result ≤ n }
@@ -66,8 +96,8 @@ pub fn marked(slots: &[Slot], mark: u32) -> u32
     let mut at = first(mark, slots.len());
     for _ in 0..slots.len() {
         let slot = slots[at];
-        if slot.mark == mark || slot.row == 0 {
-            return slot.row;
+        if slot.has_tag(mark) || slot.row() == 0 {
+            return slot.row();
         }
         at = next(at, slots.len());
     }
@@ -91,11 +121,11 @@ pub fn search(
     let mut at = first(mark, slots.len());
     for _ in 0..slots.len() {
         let slot = slots[at];
-        if slot.row == 0 {
+        if slot.row() == 0 {
             return Err(Some(at));
         }
-        let place = slot.row - 1;
-        if slot.mark == mark && is_same(&rows[place as usize], kids) {
+        let place = slot.row() - 1;
+        if slot.has_tag(mark) && is_same(&rows[place as usize], kids) {
             return Ok(place);
         }
         at = next(at, slots.len());
@@ -112,17 +142,14 @@ pub fn append(
     kids: [u32; 4],
 ) -> Result<(), AllocError>
     requires finds { FindsRows rows.old.items (length rows.old.items) slots.old }
-    requires room { length rows.old.items + 1 < 2 ^ 32 }
+    requires room { length rows.old.items + 1 < row_range }
     requires free { (mark ≡ mark_of kids) × IsFreeFor slots.old mark free }
     ensures finds { FindsRows rows.new.items (length rows.new.items) slots.new }
     ensures ok { OnOk result (rows.new.items ≡ rows.old.items ++ kids ∷ []) }
     ensures err { OnErr result ((rows.new.items ≡ rows.old.items) × (slots.new ≡ slots.old)) }
 {
     rows.push(kids)?;
-    slots[free] = Slot {
-        mark,
-        row: rows.len() as u32,
-    };
+    slots[free] = Slot::new(mark, rows.len() as u32);
     Ok(())
 }
 
@@ -133,7 +160,7 @@ fn free_slot(slots: &[Slot], mark: u32) -> Option<usize>
 {
     let mut at = first(mark, slots.len());
     for _ in 0..slots.len() {
-        if slots[at].row == 0 {
+        if slots[at].row() == 0 {
             return Some(at);
         }
         at = next(at, slots.len());
@@ -141,22 +168,20 @@ fn free_slot(slots: &[Slot], mark: u32) -> Option<usize>
     None
 }
 
-// Takes a free slot for each one that is in use, and says whether there were enough. In the order of
-// slots those that are taken stand in order too, so that few are far from the one before.
-fn spread(slots: &[Slot], wider: &mut [Slot]) -> bool
+// Takes a free slot for each row, and says whether there were enough.
+fn spread(rows: &[[u32; 4]], wider: &mut [Slot]) -> bool
     requires some { 0 < length wider.old }
     requires empty { AreEmpty wider.old }
-    ensures finds { IsTrue result → (rows : List (List ℕ)) (n : ℕ) →
-        FindsRows rows n slots.now → FindsRows rows n wider.new }
+    requires few { length rows.now < row_range }
+    ensures finds { IsTrue result → FindsRows rows.now (length rows.now) wider.new }
     ensures count { length wider.new ≡ length wider.old }
 {
-    for slot in slots {
-        if slot.row != 0 {
-            let Some(free) = free_slot(wider, slot.mark) else {
-                return false;
-            };
-            wider[free] = *slot;
-        }
+    for (place, kids) in rows.iter().enumerate() {
+        let mark = mark(kids);
+        let Some(free) = free_slot(wider, mark) else {
+            return false;
+        };
+        wider[free] = Slot::new(mark, place as u32 + 1);
     }
     true
 }
@@ -178,17 +203,17 @@ pub fn empty(slots: &mut [Slot])
 }
 
 /// Twice as many slots, where there is memory for them; a table with too few is only slower.
-pub fn widen(alloc: Global, slots: &mut Vec<Slot>)
-    requires some { 0 < length slots.old.items }
-    ensures { (rows : List (List ℕ)) (n : ℕ) →
-        FindsRows rows n slots.old.items → FindsRows rows n slots.new.items }
+pub fn widen(alloc: Global, rows: &[[u32; 4]], slots: &mut Vec<Slot>)
+    requires finds { FindsRows rows.now (length rows.now) slots.old.items }
+    requires few { length rows.now < row_range }
+    ensures { FindsRows rows.now (length rows.now) slots.new.items }
 {
     if slots.len() >= MOST_SLOTS {
         return;
     }
     let made = free_slots(alloc, slots.len() * 2);
     if let Ok(mut wider) = made
-        && spread(slots, &mut wider)
+        && spread(rows, &mut wider)
     {
         *slots = wider;
     }

@@ -162,7 +162,7 @@ impl<'a> SquareTable<'a> {
         ensures { self.new ≡ self.old }
     {
         if self.rows.len() >= self.slots.len() / 4 * 3 {
-            widen(self.alloc, &mut self.slots);
+            widen(self.alloc, &self.rows, &mut self.slots);
         }
     }
 

@@ -15,10 +15,10 @@ loop-init c = record {
 pub loop-preserved : goal.loop-preserved
 loop-preserved c =
     let n = length c.args.slots.now in
-    let free : Slot = record { mark = 0; row = 0 } in
+    let free : Slot = record { word = 0 } in
     record {
       at = c.next-at.ensures.value ∙ ap (λ s. next_of s n) c.loop.invariant.at ∙ sym (way_next c.args.mark n c.loop.counter);
       inside = c.next-at.ensures.within;
       used = used_next c.args.slots.now c.args.mark c.loop.counter c.loop.invariant.used (λ d.
-          rw (sym c.loop.invariant.at, get_or_default c.args.slots.now c.loop.at d free c.loop.invariant.inside) (omega (arith, c.if-slots-at-eq0.false)));
+          rw (sym c.loop.invariant.at, get_or_default c.args.slots.now c.loop.at d free c.loop.invariant.inside) (omega (arith, c.if-row-eq0.false, c.row.ensures.value)));
     }

@@ -3,7 +3,7 @@ use Rattle.std.proofs.lemmas.List.{get_or_default}
 use Rattle.square_table.specs.Slots.{next_of}
 use Rattle.square_table.proofs.Probing.{way_first, way_next, passed_none, passes, lacks_passed}
 use Rattle.square_table.specs.declared.slots.Slot.{Slot}
-use Rattle.square_table.proofs.slots.search.Goals.{else-slot-mark-via-then-slot-mark+else-is_same, else-slot-mark-via-else-slot-mark}
+use Rattle.square_table.proofs.slots.search.Goals.{else-has_tag-via-then-has_tag+else-is_same, else-has_tag-via-else-has_tag}
 use Rattle.square_table.proofs.slots.search.Goals as goal
 
 pub loop-init : goal.loop-init
@@ -16,21 +16,21 @@ loop-init c = record {
 pub loop-preserved : goal.loop-preserved
 loop-preserved c =
     let n = length c.args.slots.now in
-    let free : Slot = record { mark = 0; row = 0 } in
+    let free : Slot = record { word = 0 } in
     let slot = slice_index_or c.args.slots.now c.loop.at free in
     record {
       at = c.next-at.ensures.value ∙ ap (λ s. next_of s n) c.loop.invariant.at ∙ sym (way_next c.args.mark n c.loop.counter);
       inside = c.next-at.ensures.within;
       passed = passes c.args.rows.now c.args.slots.now c.args.kids.now c.args.mark c.loop.counter slot c.requires.finds c.requires.mark c.loop.invariant.passed
           (λ d. ap (λ s. slice_index_or c.args.slots.now s d) (sym c.loop.invariant.at) ∙ get_or_default c.args.slots.now c.loop.at d free c.loop.invariant.inside)
-          (omega (arith, c.if-slot-eq0.false)) (λ mark kids. elim c.else-slot-mark.branch [
-            | else-slot-mark-via-then-slot-mark+else-is_same w ↦ grind (arith, w.if-is_same, w.is_same.ensures, kids)
-            | else-slot-mark-via-else-slot-mark w ↦ w.if-slot-mark.false mark
+          (omega (arith, c.if-row-eq0.false, c.row.ensures.value)) (λ tag kids. elim c.else-has_tag.branch [
+            | else-has_tag-via-then-has_tag+else-is_same w ↦ grind (arith, w.if-is_same, w.is_same.ensures, kids)
+            | else-has_tag-via-else-has_tag w ↦ grind (arith, w.if-has_tag, c.has_tag.ensures, tag)
           ]);
     }
 
 pub returns-clause-absent : goal.returns-clause-absent
 returns-clause-absent c =
-    let free : Slot = record { mark = 0; row = 0 } in
+    let free : Slot = record { word = 0 } in
     let passed = c.loop.invariant.passed in
     lacks_passed c.args.rows.now c.args.slots.now c.args.kids.now c.args.mark c.loop.counter free c.requires.finds c.requires.mark passed (inl (omega (arith, c.loop-test.false, c.loop.auto.counter-end)))

@@ -1,11 +1,12 @@
-use Rattle.std.proofs.Common.{List, length, subst, sym, ap, ◌∙◌}
+use Rattle.std.proofs.Common.{List, length, subst, ap, ◌∙◌}
 use Rattle.square_table.specs.Slots.{FindsRows}
 use Rattle.square_table.specs.declared.slots.Slot.{Slot}
 use Rattle.square_table.proofs.Probing.{whole}
 use Rattle.square_table.proofs.slots.widen.Goals as goal
 
 pub returns-then-spread : goal.returns-then-spread
-returns-then-spread c rows n finds =
+returns-then-spread c =
     let wider = c.in-Ok.wider in
-    let found = c.spread.ensures.finds c.if-spread.true rows n (subst (λ (slots : List Slot). FindsRows rows n slots) (sym c.deref.ensures.value) finds) in
-    subst (λ (slots : List Slot). FindsRows rows n slots) (whole wider.len c.spread.new.wider wider.items wider.ok.0 (c.spread.ensures.count ∙ ap length c.deref_mut.ensures.value)) found
+    let rows = c.args.rows.now in
+    let found = c.spread.ensures.finds c.if-spread.true in
+    subst (λ (slots : List Slot). FindsRows rows (length rows) slots) (whole wider.len c.spread.new.wider wider.items wider.ok.0 (c.spread.ensures.count ∙ ap length c.deref_mut.ensures.value)) found
