@@ -6,19 +6,29 @@ use Rattle.std.proofs.lemmas.List.Elements.{All-nil, All-cons, All-append, All-w
 use Rattle.worlds.specs.World.{World}
 use Rattle.worlds.specs.Step.{nine_zeros}
 use Rattle.worlds.specs.Square.{Square, square_at}
-use Rattle.square_table.specs.Squares.{Table, square_in, first_number, AreDistinct}
+use Rattle.square_table.specs.declared.square.Square as handles
+use Rattle.square_table.specs.Squares.{Table, square_in, first_number, without_notes, AreDistinct}
 use Rattle.square_table.proofs.Shared.Numbers.{one_number}
 use Rattle.hash_life.specs.Result.{result}
 use Rattle.hash_life.specs.Puts.{nine_of, fours_of, Puts, Stands, PutsBlocks, AsksOnce}
 use Rattle.hash_life.proofs.Shared.Places.{what_is_put}
 use Rattle.hash_life.proofs.Shared.Put.{Puts-weaker}
-use Rattle.hash_engine.specs.Memo.{IsRightMemo, IsPut}
+use Rattle.hash_engine.specs.Found.{CanBeAsked}
+use Rattle.hash_engine.specs.Memo.{IsRightMemo, IsPut, HasNoFull}
 use Rattle.hash_engine.specs.Asked.{is_put, picked, places_put}
 use Rattle.hash_engine.specs.Search.{sought, Asks, IsCounted}
 use Rattle.hash_engine.specs.declared.memo.Memo.{Memo}
 use Rattle.hash_engine.proofs.Standing.{within}
 use Rattle.hash_engine.proofs.Picked.{picked-none, All-picked, Contains-picked, different-picked}
-use Rattle.hash_engine.proofs.Shared.{is_put-none, is_put-two, IsNumber-put, known-put}
+use Rattle.hash_engine.proofs.Shared.{no_full, is_put-none, is_put-two, IsNumber-put, known-put}
+
+-- a table where nothing is noted has the squares that it had
+pub asked_without : {c : ℕ} {t u : Table} {root : handles.Square} → u ≡ without_notes t → CanBeAsked c t root → CanBeAsked c u root
+asked_without {c} {t} {u} {root} is asked = subst (λ v. CanBeAsked c v root) (sym is) (record {
+  held = record { numbered = asked.held.numbered; quadrants = asked.held.quadrants };
+  level = asked.level;
+  below = asked.below;
+})
 
 -- where P holds of each square that is put to the rule, there is a list of them
 record Listed (P : Square → Type 0) (Way : (Square → Type 0) → Type 0) : Type 0 where
@@ -68,37 +78,37 @@ listed next (suc k) (suc n) s P puts =
 abbrev block : List (List ℕ) → ℕ → Square
 block rows i = square_in rows 2 (first_number + i)
 
-module _ (number : ℕ) {next : List ℕ → ℕ} {k generations base a b : ℕ} {t u : Table} {old new : Memo} (none : old.full.items ≡ [])
-    (counted : IsCounted next k generations t old) (right : IsRightMemo next u.rows new) (distinct : AreDistinct u.rows)
-    (count : base ≡ length (places_put u.rows new)) (asks : Asks next (Puts next k generations (sought t k number)) t old a u new b) where
-  pub put_blocks : Puts next k generations (sought t k number) (IsPut u.rows new.full.items) →
+module _ (number : ℕ) {next : List ℕ → ℕ} {k generations base a b : ℕ} {t u : Table} {old new : Memo} (none : HasNoFull t)
+    (counted : IsCounted next k generations t old) (right : IsRightMemo next u new) (distinct : AreDistinct u.rows)
+    (count : base ≡ length (places_put u)) (asks : Asks next (Puts next k generations (sought t k number)) t a u new b) where
+  pub put_blocks : Puts next k generations (sought t k number) (IsPut u.rows u.notes) →
       PutsBlocks next k generations (sought t k number) base
   unfolding places_put
   put_blocks puts =
-      let blocks = map (block u.rows) (places_put u.rows new) in
-      let there : (s : Square) → IsPut u.rows new.full.items s → Contains blocks s = λ s is.
+      let blocks = map (block u.rows) (places_put u) in
+      let there : (s : Square) → IsPut u.rows u.notes s → Contains blocks s = λ s is.
       let inside = within u.rows 1 (first_number + is.place) is.numbered in
-      subst (Contains blocks) is.square (Contains-picked (block u.rows) (is_put u.rows new) (length u.rows) is.place
-      (omega (arith, inside)) (is_put-two u.rows new is.place is.numbered is.known)) in
+      subst (Contains blocks) is.square (Contains-picked (block u.rows) (is_put u.rows u.notes) (length u.rows) is.place
+      (omega (arith, inside)) (is_put-two u.rows u.notes is.place is.numbered is.known)) in
       record {
         blocks = blocks;
-        count = length-map (places_put u.rows new) (block u.rows) ∙ sym count;
-        different = different-picked (block u.rows) (is_put u.rows new) (length u.rows) (λ i j below inside put_i put_j same.
-            let number_i = IsNumber-put next u.rows new i right put_i in
-            let number_j = IsNumber-put next u.rows new j right put_j in
+        count = length-map (places_put u) (block u.rows) ∙ sym count;
+        different = different-picked (block u.rows) (is_put u.rows u.notes) (length u.rows) (λ i j below inside put_i put_j same.
+            let number_i = IsNumber-put next u new i right put_i in
+            let number_j = IsNumber-put next u new j right put_j in
             let equal = one_number u.rows distinct 2 (first_number + i) (first_number + j) number_i number_j same in
             absurd (omega (arith, equal, below)));
-        all = Puts-weaker next k generations _ (IsPut u.rows new.full.items) (Contains blocks) there puts;
+        all = Puts-weaker next k generations _ (IsPut u.rows u.notes) (Contains blocks) there puts;
         only = λ those way.
-            All-picked (Contains those) (block u.rows) (is_put u.rows new) (length u.rows) (λ i below is.
-            asks.among those way (λ s was. let no = ap (λ known. get_or known was.place 0) none in absurd (omega (arith, no, was.known))) (block u.rows i)
-            (record { place = i; numbered = IsNumber-put next u.rows new i right is; known = known-put u.rows new i is; square = refl }));
+            All-picked (Contains those) (block u.rows) (is_put u.rows u.notes) (length u.rows) (λ i below is.
+            asks.among those way (λ s was. absurd (omega (arith, no_full t was.place none, was.known))) (block u.rows i)
+            (record { place = i; numbered = IsNumber-put next u new i right is; known = known-put u.rows u.notes i is; square = refl }));
       }
 
-  no_places : length (places_put t.rows old) ≡ 0
+  no_places : length (places_put t) ≡ 0
   unfolding places_put picked
-  no_places = ap length (picked-none (is_put t.rows old) 0 (length t.rows) (omega arith)
-      (λ i above below. is_put-none t.rows old i (ap (λ known. get_or known i 0) none)))
+  no_places = ap length (picked-none (is_put t.rows t.notes) 0 (length t.rows) (omega arith)
+      (λ i above below. is_put-none t.rows t.notes i (no_full t i none)))
 
   -- each was put once, and in a world where the square stands they do
   pub asked_once : (w : World) (x y : ℤ) → next nine_zeros ≡ 0 → sought t k number ≡ square_at w (suc (suc k)) x y →

@@ -44,7 +44,7 @@ later_of-grows next generations t u quadrants grows are = ap (result next 0 gene
 
 -- where the table has the middle of the block more, or nothing
 module _ (next : List ℕ → ℕ) (generations : ℕ) (t : Table) (quadrants : List ℕ) {new : List ℕ → ℕ} {c d : ℕ} {s : Square} {u : Table} {memo : Memo}
-    (is : s ≡ later_of next generations t quadrants) (rule : IsSameRule next new c d) (adds : Adds (s ∷ []) t u) (right : IsRightMemo next t.rows memo) where
+    (is : s ≡ later_of next generations t quadrants) (rule : IsSameRule next new c d) (adds : Adds (s ∷ []) t u) (right : IsRightMemo next t memo) where
   pub keeps_block : KeepsOnWay next new c d (λ P. P (later_of next generations t quadrants)) t u memo
   keeps_block = Keeps-adds rule right adds (λ all way. All-cons (Contains all) s [] (subst (Contains all) (sym is) way) (All-nil (Contains all)))
 
@@ -139,14 +139,14 @@ module _ {next : List ℕ → ℕ} {c : ℕ} {t : Table} {memo : Memo} {ahead nu
 
   -- blocks with states of the rule can be sought
   can_all : {mid : List ℕ → ℕ} {d m : ℕ} {u : Table} {after : Memo} {blocks : List Block} {ss : List Square} →
-      IsSameRule next mid c d → IsRightMemo next u.rows after → AreBlocks u.rows blocks ss →
+      IsSameRule next mid c d → IsRightMemo next u after → AreBlocks u.rows blocks ss →
       All (λ q. Puts next 0 m q (IsBelow c)) ss → CanSeekBlocks mid d u after m blocks
   can_all {mid} {d} {m} {u} {after} {blocks} {ss} rule right are puts = record {
     ready = λ j e below.
         let block = are.each j e (one 0) below in
         let put = puts j (one 0) (subst (λ l. j < l) are.count below) in
         grind (arith, rule, block, put);
-    right = subst (λ f. IsRightMemo f u.rows after) (sym rule.meaning) right;
+    right = subst (λ f. IsRightMemo f u after) (sym rule.meaning) right;
   }
 
   -- the nine

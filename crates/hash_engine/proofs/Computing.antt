@@ -6,16 +6,16 @@ use Rattle.std.proofs.lemmas.Bool.{cases_eq}
 use Rattle.std.proofs.lemmas.List.{length-map, get_or-map, length-set, get_or_default, get_or-set_same, get_or-set_other}
 use Rattle.square_table.specs.Squares.{Table, IsNumber, AreNumbers, square_in, square_of, Grows, GrowsBy, IsSquareOf}
 use Rattle.square_table.proofs.Shared.Growth.{Grows-same, IsNumber-grows, square_in-grows}
-use Rattle.square_table.proofs.Shared.Making.{IsMade-grows}
+use Rattle.square_table.proofs.Shared.Making.{IsMade-grows, notes_joined}
 use Rattle.hash_life.specs.Puts.{Puts, nine_of, fours_of, IsBelow}
 use Rattle.hash_life.specs.Makes.{Makes}
 use Rattle.hash_engine.specs.declared.memo.Memo.{Memo}
 use Rattle.hash_engine.specs.Search.{CanSeek, CanSeekAll, sought, MakesAll, PutsAll, KeepsOnWay, Asks, IsCounted, IsFound, FirstAreFound, FindsForAll, CanCompute, MakesFor, MakesForAll}
 use Rattle.hash_engine.proofs.Making.{HasMade-grows}
-use Rattle.hash_engine.proofs.Finding.{HasPut-grows, same_rule, Keeps-adds, Keeps-grown, Keeps-then, IsFound-then, made_of, one_result, StandForAll-found, by_number, by_square, by_found, Asks-then, Asks-grown, Asks-next, IsPut-grows}
+use Rattle.hash_engine.proofs.Finding.{HasPut-grows, same_rule, Keeps-adds, Keeps-grown, Keeps-then, IsFound-then, made_of, one_result, StandForAll-found, by_number, by_square, by_found, Asks-then, Asks-grown, Asks-next, IsPut-kept}
 use Rattle.std.proofs.lemmas.List.Elements.{All-weaker, All-cons}
 use Rattle.worlds.specs.Square.{Square, one, four}
-use Rattle.square_table.specs.Made.{IsMade}
+use Rattle.square_table.specs.Made.{IsMade, Adds}
 use Rattle.hash_life.specs.Result.{middle, in_two, result}
 use Rattle.hash_life.proofs.Shared.InTwo.{OfParts, result-none, result-in_two, Puts-parts}
 use Rattle.hash_life.proofs.Shared.Made.{Makes-itself, Makes-result, Makes-parts, Makes-whole, Makes-weaker}
@@ -27,18 +27,18 @@ use Rattle.hash_engine.specs.Found.{IsSameRule}
 use Rattle.hash_engine.proofs.Standing.{◌⟫◌, StandsFor-itself, StandsFor-grows, StandsFor-joined, Adds-made, four_stand}
 
 -- the first i of the squares have their results, and the others are as they were
-pub record AreDone (next : List ℕ → ℕ) (k generations i : ℕ) (olds news : List ℕ) (t : Table) (old : Memo) (u : Table) (new : Memo) : Type 0 where
+pub record AreDone (next : List ℕ → ℕ) (k generations i : ℕ) (olds news : List ℕ) (t : Table) (memo : Memo) (u : Table) : Type 0 where
   pub count : length news ≡ length olds
-  pub found : FirstAreFound next (IsCounted next k generations t old) k generations i olds t u new news
+  pub found : FirstAreFound next (IsCounted next k generations t memo) k generations i olds t u news
   pub rest : (j d : ℕ) → i ≤ j → get_or news j d ≡ get_or olds j d
 
-pub AreDone-all : {next : List ℕ → ℕ} {k generations i : ℕ} {olds news : List ℕ} {t u : Table} {old new : Memo} →
-    AreDone next k generations i olds news t old u new → length olds ≤ i → FindsForAll next k generations olds t old u new news
+pub AreDone-all : {next : List ℕ → ℕ} {k generations i : ℕ} {olds news : List ℕ} {t u : Table} {memo : Memo} →
+    AreDone next k generations i olds news t memo u → length olds ≤ i → FindsForAll next k generations olds t memo u news
 AreDone-all are all = record { count = are.count; each = λ j d e below. are.found j d e (omega (arith, below, all)) }
 
 -- what is made on the ways to the first i is there, where all was that is made on those to what was remembered
 abbrev pub FirstAreMade : (List ℕ → ℕ) → ℕ → ℕ → ℕ → List ℕ → Table → Memo → Table → Memo → Type 0
-FirstAreMade next k generations i olds t old u new = HasMade next t.rows old → HasMade next u.rows new ×
+FirstAreMade next k generations i olds t old u new = HasMade next t old → HasMade next u new ×
     ((j d : ℕ) → j < i → Makes next k generations (sought t k (get_or olds j d)) (IsMade u.rows))
 
 pub FirstAreMade-all : (next : List ℕ → ℕ) (k generations : ℕ) (olds : List ℕ) (t u : Table) {i : ℕ} {old new : Memo} →
@@ -49,7 +49,7 @@ FirstAreMade-all next k generations olds t u made all has = let are = made has i
 module _ {next mid : List ℕ → ℕ} {c d k ahead i : ℕ} {olds news : List ℕ} {t u : Table} {first before : Memo}
     (can : CanSeekAll next c t first k ahead olds) (below : i < length olds)
     (keeps : KeepsOnWay next mid c d (MakesAll next k ahead olds t) t u before)
-    (done : AreDone next k ahead i olds news t first u before) where
+    (done : AreDone next k ahead i olds news t first u) where
   -- its cells are what they were
   same : (e : ℕ) → sought u k (get_or news i 0) ≡ sought t k (get_or olds i e)
   same e =
@@ -79,19 +79,19 @@ module _ {next mid : List ℕ → ℕ} {c d k ahead i : ℕ} {olds news : List �
           ],
         )
 
-    module _ {a0 a1 a2 : ℕ} (asks : IsCounted next k ahead t first → Asks next (PutsAll next k ahead olds t) t first a0 u before a1)
-        (more : IsCounted mid k ahead u before → Asks mid (Puts mid k ahead (sought u k (get_or news i 0))) u before a1 v after a2) where
+    module _ {a0 a1 a2 : ℕ} (asks : IsCounted next k ahead t first → Asks next (PutsAll next k ahead olds t) t a0 u before a1)
+        (more : IsCounted mid k ahead u before → Asks mid (Puts mid k ahead (sought u k (get_or news i 0))) u a1 v after a2) where
       counted : IsCounted next k ahead t first → IsCounted next k ahead u before
       counted is = grind arith
 
-      now_asks : IsCounted next k ahead t first → Asks next (Puts next k ahead (sought u k (get_or news i 0))) u before a1 v after a2
+      now_asks : IsCounted next k ahead t first → Asks next (Puts next k ahead (sought u k (get_or news i 0))) u a1 v after a2
       now_asks is = grind (arith, more, counted is, keeps.rule.meaning)
 
-      pub turn_asks : IsCounted next k ahead t first → Asks next (PutsAll next k ahead olds t) t first a0 v after a2
+      pub turn_asks : IsCounted next k ahead t first → Asks next (PutsAll next k ahead olds t) t a0 v after a2
       turn_asks is = Asks-then (asks is) (λ all ways. let here = ways i 0 below in grind (arith, same 0, here)) (now_asks is)
 
-      pub turn_done : {r : ℕ} → IsFound mid (IsCounted mid k ahead u before) k ahead (sought u k (get_or news i 0)) v after r →
-          AreDone next k ahead (i + 1) olds (set news i r) t first v after
+      pub turn_done : {r : ℕ} → IsFound mid (IsCounted mid k ahead u before) k ahead (sought u k (get_or news i 0)) v r →
+          AreDone next k ahead (i + 1) olds (set news i r) t first v
       turn_done {r} found = record {
         count = length-set news i r ∙ done.count;
         found = λ j d e early. elim (cases_eq j i) [
@@ -100,7 +100,7 @@ module _ {next mid : List ℕ → ℕ} {c d k ahead i : ℕ} {olds news : List �
               grind (arith, found, keeps.rule.meaning, counted, same d, at)
           | inr other ↦
               let kept = λ (is : IsCounted next k ahead t first). (now_asks is).kept in
-              let was = IsFound-then {more = after} now.grows (λ is. is) kept (done.found j d e (omega (arith, early, other))) in
+              let was = IsFound-then now.grows (λ is. is) kept (done.found j d e (omega (arith, early, other))) in
               grind (arith, was, get_or-set_other news i j r e)
         ];
         rest = λ j e above. grind (arith, get_or-set_other news i j r e, done.rest j e);
@@ -158,7 +158,7 @@ module _ {next : List ℕ → ℕ} {c : ℕ} {t : Table} {memo : Memo} {k ahead 
 
   -- numbers that stand for squares of one level less can be sought
   can_all : {mid : List ℕ → ℕ} {d m : ℕ} {u : Table} {after : Memo} {numbers : List ℕ} {ss : List Square} →
-      IsSameRule next mid c d → IsRightMemo next u.rows after → StandForAll u.rows (suc (suc (k - 1))) numbers ss →
+      IsSameRule next mid c d → IsRightMemo next u after → StandForAll u.rows (suc (suc (k - 1))) numbers ss →
       All (λ q. Puts next (k - 1) m q (IsBelow c)) ss → CanSeekAll mid d u after (k - 1) m numbers
   can_all {mid} {d} {m} {u} {after} {numbers} {ss} rule right are puts =
       let below = by_number are (λ q. Puts next (k - 1) m q (IsBelow c)) puts in
@@ -166,8 +166,11 @@ module _ {next : List ℕ → ℕ} {c : ℕ} {t : Table} {memo : Memo} {k ahead 
 
   -- the nine
   module _ {a : Table} (adds : AddsOf nine_of t number a) where
+    nine_added : Adds (nine_of s) t a
+    nine_added = adds k s stands
+
     pub nine_keeps : KeepsOnWay next next c c (Makes next k ahead s) t a memo
-    nine_keeps = Keeps-adds (same_rule next c) can.seek.right (adds k s stands)
+    nine_keeps = Keeps-adds (same_rule next c) can.seek.right nine_added
         (λ all way. All-weaker _ _ (λ q. Makes-itself next (k - 1) first q (Contains all)) (nine_of s) (makes_parts (Contains all) way).0)
 
     module _ {nine : List ℕ} (give : GiveAllOf nine_of t number a nine) where
@@ -186,7 +189,7 @@ module _ {next : List ℕ → ℕ} {c : ℕ} {t : Table} {memo : Memo} {k ahead 
             one_keeps
 
         -- where no generation is left, the middles of the four of these
-        module _ {results : List ℕ} (one_finds : FindsForAll next (k - 1) first nine a memo b after results) (all_first : first ≡ ahead) where
+        module _ {results : List ℕ} (one_finds : FindsForAll next (k - 1) first nine a memo b results) (all_first : first ≡ ahead) where
           nine_results : StandForAll b.rows (suc (k - 1)) results (map (result next (k - 1) first) (nine_of s))
           nine_results = StandForAll-found nine_are one_finds
 
@@ -206,7 +209,7 @@ module _ {next : List ℕ → ℕ} {c : ℕ} {t : Table} {memo : Memo} {k ahead 
               let last = subst (λ m. result next (suc (k - 1)) ahead s ≡ in_two (result next (k - 1) first) (result next (k - 1) m) s) left same in
               made ∙ sym none ∙ sym last ∙ ap (λ l. result next l ahead s) is_k
 
-          pub middles_found : memo.is_lean ≡ true → (e : Table) (r : ℕ) → GivesMiddles b results e r → IsFound next (IsCounted next k ahead t memo) k ahead s e after r
+          pub middles_found : memo.is_lean ≡ true → (e : Table) (r : ℕ) → GivesMiddles b results e r → IsFound next (IsCounted next k ahead t memo) k ahead s e r
           middles_found lean e r gives = record {
             square =
                 subst (λ l. StandsFor e.rows (suc l) r (result next k ahead s)) is_k
@@ -222,13 +225,16 @@ module _ {next : List ℕ → ℕ} {c : ℕ} {t : Table} {memo : Memo} {k ahead 
               All-cons (Contains all) _ _ whole (All-map middle (Contains all) fours each))
 
         -- the four of these
-        module _ {results : List ℕ} {e : Table} (one_finds : FindsForAll next (k - 1) first nine a memo b after results)
+        module _ {results : List ℕ} {e : Table} (one_finds : FindsForAll next (k - 1) first nine a memo b results)
             (adds_four : AddsFours b results e) where
           results_are : StandForAll b.rows (suc (k - 1)) results (map (result next (k - 1) first) (nine_of s))
           results_are = StandForAll-found nine_are one_finds
 
+          added : Adds fours b e
+          added = adds_four (suc (k - 1)) _ results_are
+
           be : Grows b e
-          be = (adds_four (suc (k - 1)) _ results_are).grows
+          be = added.grows
 
           pub fours_keeps : KeepsOnWay next mid c d (Makes next k ahead s) t e after
           fours_keeps = Keeps-grown first_keeps (adds_four (suc (k - 1)) _ results_are)
@@ -251,10 +257,13 @@ module _ {next : List ℕ → ℕ} {c : ℕ} {t : Table} {memo : Memo} {k ahead 
                   two_keeps
 
               -- the square of these
-              module _ {ends : List ℕ} {g : Table} (two : FindsForAll mid (k - 1) (ahead - first) four_numbers e after f last ends)
-                  (fg : Grows f g) where
-                two_finds : FindsForAll next (k - 1) (ahead - first) four_numbers e after f last ends
-                two_finds = subst (λ h. FindsForAll h (k - 1) (ahead - first) four_numbers e after f last ends) fours_keeps.rule.meaning two
+              module _ {ends : List ℕ} {g : Table} (two : FindsForAll mid (k - 1) (ahead - first) four_numbers e after f ends)
+                  (fg : Grows f g) (step : GrowsBy ends f g) where
+                same_notes : g.notes ≡ f.notes
+                same_notes = notes_joined ends step
+
+                two_finds : FindsForAll next (k - 1) (ahead - first) four_numbers e after f ends
+                two_finds = subst (λ h. FindsForAll h (k - 1) (ahead - first) four_numbers e after f ends) fours_keeps.rule.meaning two
 
                 four_ends : AreNumbers f.rows (suc (k - 1)) ends × (square_of f.rows (suc (k - 1)) ends ≡ result next k ahead s)
                 four_ends =
@@ -264,16 +273,16 @@ module _ {next : List ℕ → ℕ} {c : ℕ} {t : Table} {memo : Memo} {k ahead 
                 joined : (r : ℕ) → IsSquareOf g.rows ends r → StandsFor g.rows (suc k) r (result next k ahead s)
                 joined r is = let whole = StandsFor-joined four_ends.0 fg is (Grows-same g) in grind (arith, whole, four_ends.1, is_k)
 
-                pub joined_keeps : GrowsBy ends f g → KeepsOnWay next new c n (Makes next k ahead s) t g last
-                joined_keeps step = Keeps-grown last_keeps (Adds-made four_ends.0 fg step) (one_result next k ahead s four_ends.1)
+                pub joined_keeps : KeepsOnWay next new c n (Makes next k ahead s) t g last
+                joined_keeps = Keeps-grown last_keeps (Adds-made four_ends.0 fg step) (one_result next k ahead s four_ends.1)
 
                 -- what is made on the way is there in the end
                 joined_made : MakesForAll next (k - 1) first nine a memo b after →
                     MakesForAll mid (k - 1) (ahead - first) four_numbers e after f last → (r : ℕ) → IsSquareOf g.rows ends r →
                     MakesFor next k ahead number t memo g last
                 joined_made first_made more r is has =
-                    let nine_made = first_made (HasMade-grows next t a memo nine_keeps.grows can.seek.right has) in
-                    let still = HasMade-grows next b e after be first_keeps.right nine_made.0 in
+                    let nine_made = first_made (HasMade-grows next t a memo nine_keeps.grows nine_added.notes can.seek.right has) in
+                    let still = HasMade-grows next b e after be added.notes first_keeps.right nine_made.0 in
                     let four_made = subst (λ h. MakesForAll h (k - 1) (ahead - first) four_numbers e after f last) fours_keeps.rule.meaning more still in
                     let to_end = λ (h : Table) (m : ℕ) (hg : Grows h g) (q : Square). Makes-weaker next (k - 1) m q (IsMade h.rows) (IsMade g.rows)
                     (λ p there. IsMade-grows h g p hg there) in
@@ -283,25 +292,25 @@ module _ {next : List ℕ → ℕ} {c : ℕ} {t : Table} {memo : Memo} {k ahead 
                     (λ j d below. to_end f (ahead - first) fg _ (four_made.1 j d below)) in
                     let whole = made_of (StandsFor-grows t g (suc (suc k)) number s (last_keeps.grows ⟫ fg) stands) in
                     let at = subst (λ l. IsMade g.rows (result next l ahead s)) (sym is_k) (made_of (joined r is)) in (
-                      HasMade-grows next f g last fg last_keeps.right four_made.0,
+                      HasMade-grows next f g last fg same_notes last_keeps.right four_made.0,
                       subst (λ l. Makes next l ahead s (IsMade g.rows)) is_k
                           (Makes-whole next (k - 1) ahead first s (IsMade g.rows) can.some is_first whole at (nine_there, four_there)),
                     )
 
                 module _ {a0 a1 a2 : ℕ}
-                    (one_asks : IsCounted next (k - 1) first a memo → Asks next (PutsAll next (k - 1) first nine a) a memo a0 b after a1)
+                    (one_asks : IsCounted next (k - 1) first a memo → Asks next (PutsAll next (k - 1) first nine a) a a0 b after a1)
                     (more : IsCounted mid (k - 1) (ahead - first) e after →
-                    Asks mid (PutsAll mid (k - 1) (ahead - first) four_numbers e) e after a1 f last a2) where
+                    Asks mid (PutsAll mid (k - 1) (ahead - first) four_numbers e) e a1 f last a2) where
                   -- so far, and then
                   counts_nine : IsCounted next k ahead t memo → IsCounted next (k - 1) first a memo
-                  counts_nine is = record { few = omega (arith, is_first); has = HasPut-grows next t a memo nine_keeps.grows can.seek.right is.has }
+                  counts_nine is = record { few = omega (arith, is_first); has = HasPut-grows next t a memo nine_keeps.grows nine_added.notes can.seek.right is.has }
 
-                  asks_fours : IsCounted next k ahead t memo → Asks next (Puts next k ahead s) t memo a0 e after a1
+                  asks_fours : IsCounted next k ahead t memo → Asks next (Puts next k ahead s) t a0 e after a1
                   asks_fours is =
-                      let first_asks = Asks-then (Asks-grown nine_keeps.grows can.seek.right is.has)
+                      let first_asks = Asks-then (Asks-grown nine_keeps.grows nine_added.notes can.seek.right is.has)
                       (λ all way. by_number nine_are (λ q. Puts next (k - 1) first q (Contains all)) (puts_parts (Contains all) way).0)
                       (one_asks (counts_nine is)) in
-                      Asks-next first_asks (Asks-grown be first_keeps.right first_asks.has)
+                      Asks-next first_asks (Asks-grown be added.notes first_keeps.right first_asks.has)
 
                   counts_fours : IsCounted next k ahead t memo → IsCounted next (k - 1) (ahead - first) e after
                   counts_fours is =
@@ -309,34 +318,34 @@ module _ {next : List ℕ → ℕ} {c : ℕ} {t : Table} {memo : Memo} {k ahead 
                       record { few = omega (arith, is_first, is.few, level); has = (asks_fours is).has }
 
                   asks_last : IsCounted next k ahead t memo →
-                      Asks next (PutsAll next (k - 1) (ahead - first) four_numbers e) e after a1 f last a2
+                      Asks next (PutsAll next (k - 1) (ahead - first) four_numbers e) e a1 f last a2
                   asks_last is =
                       subst (λ h. IsCounted h (k - 1) (ahead - first) e after →
-                      Asks h (PutsAll h (k - 1) (ahead - first) four_numbers e) e after a1 f last a2)
+                      Asks h (PutsAll h (k - 1) (ahead - first) four_numbers e) e a1 f last a2)
                       fours_keeps.rule.meaning more (counts_fours is)
 
-                  joined_asks : IsCounted next k ahead t memo → Asks next (Puts next k ahead s) t memo a0 g last a2
+                  joined_asks : IsCounted next k ahead t memo → Asks next (Puts next k ahead s) t a0 g last a2
                   joined_asks is =
                       let asks = Asks-then (asks_fours is)
                       (λ all way. by_number fours_are (λ q. Puts next (k - 1) (ahead - first) q (Contains all)) (puts_parts (Contains all) way).1)
                       (asks_last is) in
-                      Asks-next asks (Asks-grown fg last_keeps.right asks.has)
+                      Asks-next asks (Asks-grown fg same_notes last_keeps.right asks.has)
 
                   -- what is found is there in the end
-                  joined_finds : (r : ℕ) → IsSquareOf g.rows ends r → IsFound next (IsCounted next k ahead t memo) k ahead s g last r
+                  joined_finds : (r : ℕ) → IsSquareOf g.rows ends r → IsFound next (IsCounted next k ahead t memo) k ahead s g r
                   joined_finds r is =
-                      let kept = λ (q : Square) (put : IsPut f.rows last.full.items q). IsPut-grows f g last.full.items q fg put in
-                      let nine_put = by_found a results {memo = last} nine_are (λ j d below. IsFound-then {more = last} (be ⟫ two_keeps.grows ⟫ fg) counts_nine
-                      (λ is q put. kept q ((asks_last is).kept q (IsPut-grows b e after.full.items q be put))) (one_finds.each j d d below)) in
-                      let four_put = by_found e ends {memo = last} fours_are (λ j d below. IsFound-then {more = last} fg counts_fours (λ is q put. kept q put) (two_finds.each j d d below)) in
+                      let kept = λ (q : Square) (put : IsPut f.rows f.notes q). IsPut-kept f g q fg same_notes put in
+                      let nine_put = by_found a results nine_are (λ j d below. IsFound-then (be ⟫ two_keeps.grows ⟫ fg) counts_nine
+                      (λ is q put. kept q ((asks_last is).kept q (IsPut-kept b e q be added.notes put))) (one_finds.each j d d below)) in
+                      let four_put = by_found e ends fours_are (λ j d below. IsFound-then fg counts_fours (λ is q put. kept q put) (two_finds.each j d d below)) in
                       record {
                         square = joined r is;
-                        put = λ is. subst (λ l. Puts next l ahead s (IsPut g.rows last.full.items)) is_k
-                            (Puts-whole next (k - 1) ahead first s (IsPut g.rows last.full.items) can.some is_first (nine_put is, four_put is));
+                        put = λ is. subst (λ l. Puts next l ahead s (IsPut g.rows g.notes)) is_k
+                            (Puts-whole next (k - 1) ahead first s (IsPut g.rows g.notes) can.some is_first (nine_put is, four_put is));
                       }
 
-                  pub joined_all : {r : ℕ} → GrowsBy ends f g → IsSquareOf g.rows ends r → MakesForAll next (k - 1) first nine a memo b after →
+                  pub joined_all : {r : ℕ} → IsSquareOf g.rows ends r → MakesForAll next (k - 1) first nine a memo b after →
                       MakesForAll mid (k - 1) (ahead - first) four_numbers e after f last → KeepsOnWay next new c n (Makes next k ahead s) t g last ×
-                      IsFound next (IsCounted next k ahead t memo) k ahead s g last r ×
-                      (IsCounted next k ahead t memo → Asks next (Puts next k ahead s) t memo a0 g last a2) × MakesFor next k ahead number t memo g last
-                  joined_all {r} step is first_made more_made = (joined_keeps step, joined_finds r is, joined_asks, joined_made first_made more_made r is)
+                      IsFound next (IsCounted next k ahead t memo) k ahead s g r ×
+                      (IsCounted next k ahead t memo → Asks next (Puts next k ahead s) t a0 g last a2) × MakesFor next k ahead number t memo g last
+                  joined_all {r} is first_made more_made = (joined_keeps, joined_finds r is, joined_asks, joined_made first_made more_made r is)

@@ -11,16 +11,16 @@ use Rattle.hash_life.specs.Puts.{Puts}
 use Rattle.hash_life.proofs.Shared.InTwo.{Puts-itself, result-none, result-later}
 use Rattle.hash_life.proofs.Shared.Below as states
 use Rattle.hash_life.proofs.Shared.Put.{Puts-last, Puts-weaker, Puts-none}
-use Rattle.hash_engine.specs.Memo.{AreKnown, IsRightMemo, IsPut, AreWays, HasWays, HasPut, IsRemembered, IsResult, StaysRight}
-use Rattle.hash_engine.specs.Asked.{is_put, places_put}
+use Rattle.hash_engine.specs.Memo.{AreKnown, IsRightMemo, IsPut, AreWays, HasWays, HasPut, IsRemembered, IsResult, KeepsRows, StaysRight}
+use Rattle.hash_engine.specs.Asked.{is_put, picked, places_put, PutsOnly}
 use Rattle.hash_engine.specs.Search.{sought, Asks, KeepsOnWay, CanSeek, IsCounted, IsFound, FindsForAll}
 use Rattle.hash_engine.specs.declared.memo.Memo.{Memo}
 use Rattle.hash_engine.specs.Found.{CanBeAsked, IsSameRule}
 use Rattle.hash_engine.proofs.Standing.{above, within, below_some, StandsFor-itself, StandsFor-grows}
 use Rattle.hash_engine.proofs.Picked.{picked-same, picked-more}
 use Rattle.hash_engine.proofs.Shared.{IsRight-grows, is_put-none, is_put-two, is_put-more, is_put-agrees, count-grows, others}
-use Rattle.square_table.specs.Made.{IsMade, Adds}
-use Rattle.std.proofs.lemmas.List.{length-map, get_or-map}
+use Rattle.square_table.specs.Made.{IsMade, AreAmong, Adds}
+use Rattle.std.proofs.lemmas.List.{append-nil, length-map, get_or-map}
 use Rattle.std.proofs.lemmas.List.Elements.{All-nil, All-cons}
 use Rattle.hash_life.specs.Result.{middle, later, result}
 use Rattle.hash_life.specs.Makes.{Makes}
@@ -37,6 +37,10 @@ IsPut-grows t u full s grows is = record {
   square = square_in-grows t u 2 (first_number + is.place) grows is.numbered ∙ is.square;
 }
 
+-- and with the same notes, too
+pub IsPut-kept : (t u : Table) (s : Square) → Grows t u → u.notes ≡ t.notes → IsPut t.rows t.notes s → IsPut u.rows u.notes s
+IsPut-kept t u s grows same is = subst (λ notes. IsPut u.rows notes s) (sym same) (IsPut-grows t u t.notes s grows is)
+
 -- a number of a square of level k + 2 with a result was one in the table before
 pub was_number : (next : List ℕ → ℕ) (count : ℕ → ℕ) (t u : Table) (known : List ℕ) (i k : ℕ) → Grows t u →
     AreKnown next count t.rows known → 0 < get_or known i 0 → IsNumber u.rows (suc (suc k)) (first_number + i) →
@@ -45,10 +49,10 @@ was_number next count t u known i k grows are some number =
     let h = are.right i some in
     grind (arith, IsNumber-grows t u (suc (suc h.0)), one_level u.rows (suc (suc h.0)) (suc (suc k)))
 
-pub IsPut-before : (next : List ℕ → ℕ) (t u : Table) (memo : Memo) (s : Square) → Grows t u → IsRightMemo next t.rows memo →
-    IsPut u.rows memo.full.items s → IsPut t.rows memo.full.items s
-IsPut-before next t u memo s grows right is =
-    grind (arith, was_number next (λ k. 2 ^ k) t u memo.full.items is.place 0, square_in-grows)
+pub IsPut-before : (next : List ℕ → ℕ) (t u : Table) (memo : Memo) (s : Square) → Grows t u → u.notes ≡ t.notes → IsRightMemo next t memo →
+    IsPut u.rows u.notes s → IsPut t.rows t.notes s
+IsPut-before next t u memo s grows same right is =
+    grind (arith, same, was_number next (λ k. 2 ^ k) t u t.notes is.place 0, square_in-grows)
 
 -- the ways to what is known
 AreWays-grows : {Way More : ℕ → ℕ → Square → Type 0} (next : List ℕ → ℕ) (count : ℕ → ℕ) (t u : Table) (known : List ℕ) → ((k m : ℕ) (s : Square) → Way k m s → More k m s) →
@@ -60,17 +64,17 @@ AreWays-grows {Way} {More} next count t u known so grows right are = record {
 }
 
 pub HasWays-grows : {Way More : ℕ → ℕ → Square → Type 0} (next : List ℕ → ℕ) (t u : Table) (memo : Memo) → ((k m : ℕ) (s : Square) → Way k m s → More k m s) →
-    Grows t u → IsRightMemo next t.rows memo → HasWays Way t.rows memo → HasWays More u.rows memo
-HasWays-grows next t u memo so grows right has = record {
+    Grows t u → u.notes ≡ t.notes → IsRightMemo next t memo → HasWays Way t memo → HasWays More u memo
+HasWays-grows {Way} {More} next t u memo so grows same right has = record {
   whole = has.whole;
-  full = AreWays-grows next (λ k. 2 ^ k) t u memo.full.items so grows right.full has.full;
+  full = subst (AreWays More (λ k. 2 ^ k) u.rows) (sym same) (AreWays-grows next (λ k. 2 ^ k) t u t.notes so grows right.full has.full);
   part = AreWays-grows next (λ k. get_or memo.counts k 0) t u memo.part.items so grows right.part has.part;
 }
 
-pub HasPut-grows : (next : List ℕ → ℕ) (t u : Table) (memo : Memo) → Grows t u → IsRightMemo next t.rows memo →
-    HasPut next t.rows memo → HasPut next u.rows memo
-HasPut-grows next t u memo grows =
-    HasWays-grows next t u memo (λ k m s way few. Puts-weaker next k m s _ _ (λ q is. IsPut-grows t u memo.full.items q grows is) (way few)) grows
+pub HasPut-grows : (next : List ℕ → ℕ) (t u : Table) (memo : Memo) → Grows t u → u.notes ≡ t.notes → IsRightMemo next t memo →
+    HasPut next t memo → HasPut next u memo
+HasPut-grows next t u memo grows same =
+    HasWays-grows next t u memo (λ k m s way few. Puts-weaker next k m s _ _ (λ q is. IsPut-kept t u q grows same is) (way few)) grows same
 
 -- the way to what is recalled
 pub recalled_way : (Way : ℕ → ℕ → Square → Type 0) (count : ℕ → ℕ) (rows : List (List ℕ)) (known : List ℕ) (k generations n r : ℕ) →
@@ -84,24 +88,27 @@ recalled_way Way count rows known k generations n r asked high some is are numbe
 
 -- the table alone grew
 pub Asks-grown : {next : List ℕ → ℕ} {Way : (Square → Type 0) → Type 0} {t u : Table} {memo : Memo} {asks : ℕ} →
-    Grows t u → IsRightMemo next t.rows memo → HasPut next t.rows memo → Asks next Way t memo asks u memo asks
-Asks-grown {next} {Way} {t} {u} {memo} {asks} grows right has =
-    let four = count-grows next t u memo grows right in
-    grind (arith, four, HasPut-grows next t u memo grows right has, IsPut-grows t u memo.full.items, IsPut-before next t u memo)
+    Grows t u → u.notes ≡ t.notes → IsRightMemo next t memo → HasPut next t memo → Asks next Way t asks u memo asks
+Asks-grown {next} {Way} {t} {u} {memo} {asks} grows same right has = record {
+  four = omega (arith, count-grows next t u memo grows same right);
+  has = HasPut-grows next t u memo grows same right has;
+  kept = λ s is. IsPut-kept t u s grows same is;
+  among = λ all way only s is. only s (IsPut-before next t u memo s grows same right is);
+}
 
 -- it went on with what is on the way
-pub Asks-then : {next : List ℕ → ℕ} {Way Rest : (Square → Type 0) → Type 0} {t u v : Table} {old mid new : Memo} {a b c : ℕ} →
-    Asks next Way t old a u mid b → ((all : List Square) → Way (Contains all) → Rest (Contains all)) →
-    Asks next Rest u mid b v new c → Asks next Way t old a v new c
+pub Asks-then : {next : List ℕ → ℕ} {Way Rest : (Square → Type 0) → Type 0} {t u v : Table} {mid new : Memo} {a b c : ℕ} →
+    Asks next Way t a u mid b → ((all : List Square) → Way (Contains all) → Rest (Contains all)) →
+    Asks next Rest u b v new c → Asks next Way t a v new c
 Asks-then first rest then = grind arith
 
-pub Asks-next : {next : List ℕ → ℕ} {Way : (Square → Type 0) → Type 0} {t u v : Table} {old mid new : Memo} {a b c : ℕ} →
-    Asks next Way t old a u mid b → Asks next Way u mid b v new c → Asks next Way t old a v new c
+pub Asks-next : {next : List ℕ → ℕ} {Way : (Square → Type 0) → Type 0} {t u v : Table} {mid new : Memo} {a b c : ℕ} →
+    Asks next Way t a u mid b → Asks next Way u b v new c → Asks next Way t a v new c
 Asks-next first then = Asks-then first (λ all way. way) then
 
 -- one result more is remembered: each is the same, or the one
-module _ {Way More : ℕ → ℕ → Square → Type 0} (u : Table) {k generations n r : ℕ} {old new : Memo} (number : IsNumber u.rows (suc (suc k)) n)
-    (is : IsRemembered k generations n r old new) (so : (l m : ℕ) (s : Square) → Way l m s → More l m s) (way : More k generations (sought u k n)) where
+module _ {Way More : ℕ → ℕ → Square → Type 0} (u v : Table) {k generations n r : ℕ} {old new : Memo} (number : IsNumber u.rows (suc (suc k)) n)
+    (same : KeepsRows u v) (is : IsRemembered k generations n r u old v new) (so : (l m : ℕ) (s : Square) → Way l m s → More l m s) (way : More k generations (sought u k n)) where
   AreWays-noted : (count : ℕ → ℕ) (known more : List ℕ) →
       (generations ≡ count k → (j : ℕ) → j ≢ n - first_number → get_or more j 0 ≡ get_or known j 0) →
       (generations ≢ count k → more ≡ known) → AreWays Way count u.rows known → AreWays More count u.rows more
@@ -112,48 +119,56 @@ module _ {Way More : ℕ → ℕ → Square → Type 0} (u : Table) {k generatio
         grind (arith, cases_eq generations (count k), cases_eq i (n - first_number), are.each i l, place, level, so l (count l), way);
   }
 
-  pub HasWays-noted : HasWays Way u.rows old → HasWays More u.rows new
+  pub HasWays-noted : HasWays Way u old → HasWays More v new
   HasWays-noted has = record {
     whole = is.lean ∙ has.whole;
-    full = AreWays-noted (λ l. 2 ^ l) _ _ (λ by. (is.full by).others) is.other has.full;
+    full = subst (λ rows. AreWays More (λ l. 2 ^ l) rows v.notes) (sym same.rows) (AreWays-noted (λ l. 2 ^ l) _ _ (λ by. (is.full by).others) is.other has.full);
     part =
-        subst (λ (cs : List ℕ). AreWays More (λ l. get_or cs l 0) u.rows new.part.items) (sym is.counts)
-        (AreWays-noted (λ l. get_or old.counts l 0) _ _ is.part is.rest has.part);
+        subst (λ rows. AreWays More (λ l. get_or new.counts l 0) rows new.part.items) (sym same.rows)
+        (subst (λ (cs : List ℕ). AreWays More (λ l. get_or cs l 0) u.rows new.part.items) (sym is.counts)
+        (AreWays-noted (λ l. get_or old.counts l 0) _ _ is.part is.rest has.part));
   }
 
-module _ (u : Table) {k generations n r : ℕ} {old new : Memo} (number : IsNumber u.rows (suc (suc k)) n)
-    (is : IsRemembered k generations n r old new) (some : 0 < r) where
+module _ (u v : Table) {k generations n r : ℕ} {old new : Memo} (number : IsNumber u.rows (suc (suc k)) n)
+    (same : KeepsRows u v) (is : IsRemembered k generations n r u old v new) (some : 0 < r) where
   place : first_number + (n - first_number) ≡ n
   place = omega (arith, above u.rows (suc k) n number)
 
-  pub put_still : (s : Square) → IsPut u.rows old.full.items s → IsPut u.rows new.full.items s
+  pub put_still : (s : Square) → IsPut u.rows u.notes s → IsPut v.rows v.notes s
   put_still s put =
-      let known : 0 < get_or new.full.items put.place 0 =
+      let known : 0 < get_or v.notes put.place 0 =
       grind (arith, put.known, cases_eq put.place (n - first_number), cases_eq generations (2 ^ k), others) in
-      record { place = put.place; numbered = put.numbered; known = known; square = put.square }
+      subst (λ rows. IsPut rows v.notes s) (sym same.rows) (record { place = put.place; numbered = put.numbered; known = known; square = put.square })
 
-  module _ (next : List ℕ → ℕ) (way : Puts next k generations (sought u k n) (IsPut u.rows new.full.items)) where
+  -- by its place it is the square, or was put before
+  put_before : (all : List Square) → (IsNumber u.rows 2 n → Contains all (square_in u.rows 2 n)) → PutsOnly all u → (s : Square) → IsPut u.rows v.notes s → Contains all s
+  put_before all there only s put = elim (cases_eq put.place (n - first_number)) [
+    | inl here ↦ grind (arith, here, place, there, put)
+    | inr apart ↦
+        let was = others k generations n r u old v new put.place is apart in
+        only s (record { place = put.place; numbered = put.numbered; known = omega (arith, was, put.known); square = put.square })
+  ]
+
+  module _ (next : List ℕ → ℕ) (way : Puts next k generations (sought u k n) (IsPut v.rows v.notes)) where
     pub Asks-noted : {Way : (Square → Type 0) → Type 0} {a b : ℕ} →
-        b + 4 * length (places_put u.rows old) ≡ a + 4 * length (places_put u.rows new) → HasPut next u.rows old →
+        b + 4 * length (places_put u) ≡ a + 4 * length (places_put v) → HasPut next u old →
         ((all : List Square) → Way (Contains all) → IsNumber u.rows 2 n → Contains all (square_in u.rows 2 n)) →
-        Asks next Way u old a u new b
+        Asks next Way u a v new b
     Asks-noted {Way} {a} {b} four has listed = record {
       four = four;
-      has = HasWays-noted u number is (λ l m s was few. Puts-weaker next l m s _ _ put_still (was few)) (λ few. way) has;
+      has = HasWays-noted u v number same is (λ l m s was few. Puts-weaker next l m s _ _ put_still (was few)) (λ few. way) has;
       kept = put_still;
-      among = λ all way only s put. elim (cases_eq put.place (n - first_number)) [
-        | inl here ↦
-            let there = listed all way in
-            grind (arith, here, place, there, put)
-        | inr apart ↦
-            let was = others k generations n r old new put.place is apart in
-            only s (record { place = put.place; numbered = put.numbered; known = omega (arith, was, put.known); square = put.square })
-      ];
+      among = λ all way only s put. put_before all (listed all way) only s (subst (λ rows. IsPut rows v.notes s) same.rows put);
     }
 
+-- the places of what is put, by the squares before
+places_noted : {u v : Table} → KeepsRows u v → places_put v ≡ picked (is_put u.rows v.notes) (length u.rows)
+unfolding places_put
+places_noted {u} {v} same = ap (λ rows. picked (is_put rows v.notes) (length rows)) same.rows
+
 -- a square of 4 by 4 cells is put to the rule
-module _ {t u : Table} {generations n r : ℕ} {old new : Memo} (one : 0 < generations) (few : generations ≤ 2 ^ 0) (grows : Grows t u)
-    (was : IsNumber t.rows 2 n) (is : IsRemembered 0 generations n r old new) (some : 0 < r) where
+module _ {t u v : Table} {generations n r : ℕ} {old new : Memo} (one : 0 < generations) (few : generations ≤ 2 ^ 0) (grows : Grows t u)
+    (was : IsNumber t.rows 2 n) (rows : KeepsRows u v) (is : IsRemembered 0 generations n r u old v new) (some : 0 < r) where
   same : square_in u.rows 2 n ≡ sought t 0 n
   same = square_in-grows t u 2 n grows was
 
@@ -163,23 +178,25 @@ module _ {t u : Table} {generations n r : ℕ} {old new : Memo} (one : 0 < gener
   numbered : IsNumber u.rows 2 (first_number + (n - first_number))
   numbered = subst (IsNumber u.rows 2) at (IsNumber-grows t u 2 n grows was)
 
-  known : 0 < get_or new.full.items (n - first_number) 0
+  known : 0 < get_or v.notes (n - first_number) 0
   known = let noted = (is.full (omega (arith, one, few))).here in omega (arith, noted, some)
 
-  pub IsPut-noted : IsPut u.rows new.full.items (sought t 0 n)
-  IsPut-noted = record { place = n - first_number; numbered = numbered; known = known; square = ap (square_in u.rows 2) (sym at) ∙ same }
+  pub IsPut-noted : IsPut v.rows v.notes (sought t 0 n)
+  IsPut-noted =
+      subst (λ (rows : List (List ℕ)). IsPut rows v.notes (sought t 0 n)) (sym rows.rows)
+      (record { place = n - first_number; numbered = numbered; known = known; square = ap (square_in u.rows 2) (sym at) ∙ same })
 
-  pub Asks-put : {next : List ℕ → ℕ} {a b : ℕ} → IsRightMemo next t.rows old → HasPut next t.rows old →
-      get_or old.full.items (n - first_number) 0 ≡ 0 → b ≡ a + 4 → Asks next (Puts next 0 generations (sought t 0 n)) t old a u new b
+  pub Asks-put : {next : List ℕ → ℕ} {a b : ℕ} → u.notes ≡ t.notes → IsRightMemo next t old → HasPut next t old →
+      get_or t.notes (n - first_number) 0 ≡ 0 → b ≡ a + 4 → Asks next (Puts next 0 generations (sought t 0 n)) t a v new b
   unfolding places_put
-  Asks-put {next} {a} {b} right has anew four =
-      let more = picked-more (is_put u.rows old) (is_put u.rows new) (n - first_number) (length u.rows)
-      (omega (arith, within u.rows 1 _ numbered)) (is_put-none u.rows old (n - first_number) anew)
-      (is_put-two u.rows new (n - first_number) numbered known)
-      (λ i apart. sym (is_put-agrees u.rows old new i (others 0 generations n r old new i is apart))) in
-      let way = Puts-last next generations (sought u 0 n) (IsPut u.rows new.full.items) (subst (IsPut u.rows new.full.items) (sym same) IsPut-noted) in
-      Asks-next (Asks-grown grows right has)
-      (Asks-noted u (IsNumber-grows t u 2 n grows was) is some next way (omega (arith, four, more)) (HasPut-grows next t u old grows right has)
+  Asks-put {next} {a} {b} notes right has anew four =
+      let more = picked-more (is_put u.rows u.notes) (is_put u.rows v.notes) (n - first_number) (length u.rows)
+      (omega (arith, within u.rows 1 _ numbered)) (is_put-none u.rows u.notes (n - first_number) (ap (λ known. get_or known (n - first_number) 0) notes ∙ anew))
+      (is_put-two u.rows v.notes (n - first_number) numbered known)
+      (λ i apart. sym (is_put-agrees u.rows u.notes v.notes i (others 0 generations n r u old v new i is apart))) in
+      let way = Puts-last next generations (sought u 0 n) (IsPut v.rows v.notes) (subst (IsPut v.rows v.notes) (sym same) IsPut-noted) in
+      Asks-next (Asks-grown grows notes right has)
+      (Asks-noted u v (IsNumber-grows t u 2 n grows was) rows is some next way (omega (arith, four, more, ap length (places_noted rows))) (HasPut-grows next t u old grows notes right has)
       (λ all on_way two. subst (Contains all) (sym same) (Puts-itself next generations (sought t 0 n) (Contains all) one on_way)))
 
 pub same_rule : (next : List ℕ → ℕ) (c : ℕ) → IsSameRule next next c c
@@ -187,12 +204,12 @@ same_rule next c = record { meaning = refl; states = refl }
 
 -- the table has squares on the way more, or none
 pub Keeps-adds : {next new : List ℕ → ℕ} {c d : ℕ} {Way : (Square → Type 0) → Type 0} {made : List Square} {t u : Table} {memo : Memo} →
-    IsSameRule next new c d → IsRightMemo next t.rows memo → Adds made t u → ((all : List Square) → Way (Contains all) → All (Contains all) made) →
+    IsSameRule next new c d → IsRightMemo next t memo → Adds made t u → ((all : List Square) → Way (Contains all) → All (Contains all) made) →
     KeepsOnWay next new c d Way t u memo
 Keeps-adds {next} {new} {c} {d} {Way} {made} {t} {u} {memo} rule right adds so = record {
   rule = rule;
   grows = adds.grows;
-  right = IsRight-grows next t u memo adds.grows right;
+  right = IsRight-grows next t u memo adds.grows adds.notes right;
   adds = λ all way. adds.among all (so all way);
 }
 
@@ -202,7 +219,7 @@ pub Keeps-grown : {next new : List ℕ → ℕ} {c d : ℕ} {Way : (Square → T
 Keeps-grown {next} {new} {c} {d} {Way} {made} {t} {u} {v} {memo} keeps adds so = record {
   rule = keeps.rule;
   grows = Grows-then t u v keeps.grows adds.grows;
-  right = IsRight-grows next u v memo adds.grows keeps.right;
+  right = IsRight-grows next u v memo adds.grows adds.notes keeps.right;
   adds = λ all way are. adds.among all (so all way) (keeps.adds all way are);
 }
 
@@ -224,57 +241,66 @@ one_result next k generations s {r} is all way =
 
 -- that of the root of a search can be sought
 pub CanSeek-root : {next : List ℕ → ℕ} {c : ℕ} {t : Table} {memo : Memo} {root : handles.Square} {generations level n : ℕ} → CanBeAsked c t root →
-    states.Keeps c next → level ≡ level_of root → n ≡ number_of root → IsRightMemo next t.rows memo → CanSeek next c t memo (level - 2) generations n
+    states.Keeps c next → level ≡ level_of root → n ≡ number_of root → IsRightMemo next t memo → CanSeek next c t memo (level - 2) generations n
 CanSeek-root {next} {c} {t} {memo} {root} {generations} {level} {n} asked keeps is same right =
     let below = states.Puts-below c next keeps (below_some c (cells_of t root) asked.below) (level - 2) generations (cells_of t root) asked.below in
     let two : level_of root ≡ suc (suc (level - 2)) = omega (arith, asked.level.0, is) in
     grind (arith, asked, is, same, two, below, right)
 
 -- for no generation it is the middle
-pub Keeps-middle : (k n : ℕ) {next : List ℕ → ℕ} {c ahead : ℕ} {t u : Table} {memo : Memo} → ahead ≡ 0 → IsRightMemo next t.rows memo →
+pub Keeps-middle : (k n : ℕ) {next : List ℕ → ℕ} {c ahead : ℕ} {t u : Table} {memo : Memo} → ahead ≡ 0 → IsRightMemo next t memo →
     IsNumber t.rows (suc (suc k)) n → AddsOf (λ s. middle s ∷ []) t n u → KeepsOnWay next next c c (Makes next k ahead (sought t k n)) t u memo
 Keeps-middle k n {next} {c} {ahead} {t} none right numbered adds =
     let s = sought t k n in
     let is : middle s ≡ result next k ahead s = grind (arith, none, result-none next k s) in
     Keeps-adds (same_rule next c) right (adds k s (StandsFor-itself t.rows (suc (suc k)) n numbered)) (one_result next k ahead s is)
 
-pub IsFound-none : {next : List ℕ → ℕ} {Counted : Type 0} {k generations n r : ℕ} {t u : Table} {memo : Memo} → generations ≡ 0 → Grows t u →
-    IsNumber t.rows (suc (suc k)) n → GivesOf middle t n u r → IsFound next Counted k generations (sought t k n) u memo r
-IsFound-none {next} {Counted} {k} {generations} {n} {r} {t} {u} {memo} none grows numbered gives =
+pub IsFound-none : {next : List ℕ → ℕ} {Counted : Type 0} {k generations n r : ℕ} {t u : Table} → generations ≡ 0 → Grows t u →
+    IsNumber t.rows (suc (suc k)) n → GivesOf middle t n u r → IsFound next Counted k generations (sought t k n) u r
+IsFound-none {next} {Counted} {k} {generations} {n} {r} {t} {u} none grows numbered gives =
     let s = sought t k n in
     let stands = StandsFor-itself t.rows (suc (suc k)) n numbered in
     let found = subst (StandsFor u.rows (suc k) r) (sym (result-none next k s)) (gives k s stands) in
-    grind (arith, none, found, Puts-none next k s (IsPut u.rows memo.full.items))
+    grind (arith, none, found, Puts-none next k s (IsPut u.rows u.notes))
 
 -- for a square of 4 by 4 cells it is put to the rule
-pub IsFound-put : (n : ℕ) {next : List ℕ → ℕ} {Counted : Type 0} {generations r : ℕ} {t u : Table} {memo : Memo} → 0 < generations → Grows t u →
-    IsNumber t.rows 2 n → StandsFor u.rows 1 r (later next (sought t 0 n)) → (Counted → IsPut u.rows memo.full.items (sought t 0 n)) →
-    IsFound next Counted 0 generations (sought t 0 n) u memo r
-IsFound-put n {next} {Counted} {generations} {r} {t} {u} {memo} some grows numbered found put =
+pub IsFound-put : (t : Table) (n : ℕ) {next : List ℕ → ℕ} {Counted : Type 0} {generations r : ℕ} {u : Table} → 0 < generations →
+    StandsFor u.rows 1 r (later next (sought t 0 n)) → (Counted → IsPut u.rows u.notes (sought t 0 n)) →
+    IsFound next Counted 0 generations (sought t 0 n) u r
+IsFound-put t n {next} {Counted} {generations} {r} {u} some found put =
     let s = sought t 0 n in
     let square = subst (StandsFor u.rows 1 r) (sym (result-later next generations s some)) found in
-    grind (arith, square, Puts-last next generations s (IsPut u.rows memo.full.items), put)
+    grind (arith, square, Puts-last next generations s (IsPut u.rows u.notes), put)
 
 -- it is found still in a table that grew, where more is put
-pub IsFound-then : {next : List ℕ → ℕ} {Counted Also : Type 0} {k generations n : ℕ} {s : Square} {u v : Table} {memo more : Memo} →
-    Grows u v → (Also → Counted) → (Also → (q : Square) → IsPut u.rows memo.full.items q → IsPut v.rows more.full.items q) →
-    IsFound next Counted k generations s u memo n → IsFound next Also k generations s v more n
-IsFound-then {next} {Counted} {Also} {k} {generations} {n} {s} {u} {v} {memo} {more} grows counts kept is =
-    let puts = Puts-weaker next k generations s (IsPut u.rows memo.full.items) (IsPut v.rows more.full.items) in
+pub IsFound-then : {next : List ℕ → ℕ} {Counted Also : Type 0} {k generations n : ℕ} {s : Square} {u v : Table} →
+    Grows u v → (Also → Counted) → (Also → (q : Square) → IsPut u.rows u.notes q → IsPut v.rows v.notes q) →
+    IsFound next Counted k generations s u n → IsFound next Also k generations s v n
+IsFound-then {next} {Counted} {Also} {k} {generations} {n} {s} {u} {v} grows counts kept is =
+    let puts = Puts-weaker next k generations s (IsPut u.rows u.notes) (IsPut v.rows v.notes) in
     grind (arith, StandsFor-grows u v (suc k) n, puts)
 
+-- a table with the same squares grew
+pub Grows-rows : {u v : Table} → KeepsRows u v → Grows u v
+Grows-rows {u} {v} same = record { limit = same.limit; more = []; rows = same.rows ∙ sym (append-nil u.rows) }
+
 -- and then it was remembered
-pub Keeps-noted : {next new : List ℕ → ℕ} {c d k generations n r : ℕ} {Counted : Type 0} {Way : (Square → Type 0) → Type 0} {t u : Table} {memo old : Memo}
-    (more : Memo) → KeepsOnWay next new c d Way t u memo → IsNumber t.rows (suc (suc k)) n → IsFound next Counted k generations (sought t k n) u old r →
-    StaysRight k generations n r memo more → KeepsOnWay next new c d Way t u more
-Keeps-noted {next} {new} {c} {d} {k} {generations} {n} {r} {Counted} {Way} {t} {u} more keeps numbered found stays =
+pub Keeps-noted : {next new : List ℕ → ℕ} {c d k generations n r : ℕ} {Counted : Type 0} {Way : (Square → Type 0) → Type 0} {t u v : Table} {memo : Memo}
+    (more : Memo) → KeepsOnWay next new c d Way t u memo → IsNumber t.rows (suc (suc k)) n → IsFound next Counted k generations (sought t k n) u r →
+    KeepsRows u v → StaysRight k generations n r u memo v more → KeepsOnWay next new c d Way t v more
+Keeps-noted {next} {new} {c} {d} {k} {generations} {n} {r} {Counted} {Way} {t} {u} {v} more keeps numbered found rows stays =
     let same = square_in-grows t u (suc (suc k)) n keeps.grows numbered in
     let is : IsResult next u.rows k generations n r = grind (arith, IsNumber-grows t u (suc (suc k)) n keeps.grows numbered, same, found) in
-    record { rule = keeps.rule; grows = keeps.grows; right = stays next u.rows keeps.right is; adds = keeps.adds }
+    record {
+      rule = keeps.rule;
+      grows = Grows-then t u v keeps.grows (Grows-rows rows);
+      right = stays next keeps.right is;
+      adds = λ all way are. subst (AreAmong all) (sym rows.rows) (keeps.adds all way are);
+    }
 
 -- where numbers stand for squares, what is found for them is of these
-pub StandForAll-found : {next : List ℕ → ℕ} {k generations : ℕ} {numbers found : List ℕ} {ss : List Square} {t u : Table} {old new : Memo} →
-    StandForAll t.rows (suc (suc k)) numbers ss → FindsForAll next k generations numbers t old u new found → StandForAll u.rows (suc k) found (map (result next k generations) ss)
+pub StandForAll-found : {next : List ℕ → ℕ} {k generations : ℕ} {numbers found : List ℕ} {ss : List Square} {t u : Table} {memo : Memo} →
+    StandForAll t.rows (suc (suc k)) numbers ss → FindsForAll next k generations numbers t memo u found → StandForAll u.rows (suc k) found (map (result next k generations) ss)
 StandForAll-found {next} {k} {generations} {numbers} {found} {ss} {t} {u} are finds = record {
   count = finds.count ∙ are.count ∙ sym (length-map ss (result next k generations));
   each = λ j d e below.
@@ -292,32 +318,32 @@ module _ {rows : List (List ℕ)} {level : ℕ} {numbers : List ℕ} {ss : List 
   by_square holds i e below = grind (arith, are.each i 0 e, holds i 0)
 
 -- so what is put on the ways to these was put
-pub by_found : (t : Table) (found : List ℕ) {next : List ℕ → ℕ} {Counted : Type 0} {l m : ℕ} {numbers : List ℕ} {ss : List Square} {u : Table} {memo : Memo} →
+pub by_found : (t : Table) (found : List ℕ) {next : List ℕ → ℕ} {Counted : Type 0} {l m : ℕ} {numbers : List ℕ} {ss : List Square} {u : Table} →
     StandForAll t.rows (suc (suc l)) numbers ss →
-    ((j d : ℕ) → j < length numbers → IsFound next Counted l m (sought t l (get_or numbers j d)) u memo (get_or found j d)) →
-    Counted → All (λ q. Puts next l m q (IsPut u.rows memo.full.items)) ss
-by_found t found {next} {Counted} {l} {m} {numbers} {ss} {u} {memo} are each is =
-    by_square are (λ q. Puts next l m q (IsPut u.rows memo.full.items)) (λ j d below. (each j d below).put is)
+    ((j d : ℕ) → j < length numbers → IsFound next Counted l m (sought t l (get_or numbers j d)) u (get_or found j d)) →
+    Counted → All (λ q. Puts next l m q (IsPut u.rows u.notes)) ss
+by_found t found {next} {Counted} {l} {m} {numbers} {ss} {u} are each is =
+    by_square are (λ q. Puts next l m q (IsPut u.rows u.notes)) (λ j d below. (each j d below).put is)
 
 -- above level 2 it is remembered
-module _ {next : List ℕ → ℕ} {k generations n r : ℕ} {t u : Table} {old mid new : Memo} (high : 0 < k) (grows : Grows t u)
-    (numbered : IsNumber t.rows (suc (suc k)) n) (noted : IsRemembered k generations n r mid new) (some : 0 < r)
-    (found : IsFound next (IsCounted next k generations t old) k generations (sought t k n) u mid r) where
+module _ {next : List ℕ → ℕ} {k generations n r : ℕ} {t u v : Table} {old mid new : Memo} (high : 0 < k) (grows : Grows t u)
+    (numbered : IsNumber t.rows (suc (suc k)) n) (rows : KeepsRows u v) (noted : IsRemembered k generations n r u mid v new) (some : 0 < r)
+    (found : IsFound next (IsCounted next k generations t old) k generations (sought t k n) u r) where
   number : IsNumber u.rows (suc (suc k)) n
   number = IsNumber-grows t u (suc (suc k)) n grows numbered
 
-  pub found_still : IsFound next (IsCounted next k generations t old) k generations (sought t k n) u new r
-  found_still = IsFound-then (Grows-same u) (λ is. is) (λ is s put. put_still u number noted some s put) found
+  pub found_still : IsFound next (IsCounted next k generations t old) k generations (sought t k n) v r
+  found_still = IsFound-then (Grows-rows rows) (λ is. is) (λ is s put. put_still u v number rows noted some s put) found
 
-  pub asks_still : {a b : ℕ} → (IsCounted next k generations t old → Asks next (Puts next k generations (sought t k n)) t old a u mid b) →
-      IsCounted next k generations t old → Asks next (Puts next k generations (sought t k n)) t old a u new b
+  pub asks_still : {a b : ℕ} → (IsCounted next k generations t old → Asks next (Puts next k generations (sought t k n)) t a u mid b) →
+      IsCounted next k generations t old → Asks next (Puts next k generations (sought t k n)) t a v new b
   unfolding places_put
   asks_still {a} {b} asks is =
       let same = sym (square_in-grows t u (suc (suc k)) n grows numbered) in
-      let way = subst (λ s. Puts next k generations s (IsPut u.rows new.full.items)) same (found_still.put is) in
-      let places = picked-same (is_put u.rows new) (is_put u.rows mid) (length u.rows) (λ i below.
-      let apart = others k generations n r mid new i noted in
-      let more = is_put-more u.rows new (k - 1) i in
-      grind (arith, number, cases_eq i (n - first_number), above u.rows (suc k) n number, apart, more, is_put-more u.rows mid (k - 1) i, is_put-agrees)) in
-      Asks-next (asks is) (Asks-noted u number noted some next way (ap (λ ps. b + 4 * length ps) (sym places)) (asks is).has
+      let way = subst (λ s. Puts next k generations s (IsPut v.rows v.notes)) same (found_still.put is) in
+      let places = picked-same (is_put u.rows v.notes) (is_put u.rows u.notes) (length u.rows) (λ i below.
+      let apart = others k generations n r u mid v new i noted in
+      let more = is_put-more u.rows v.notes (k - 1) i in
+      grind (arith, number, cases_eq i (n - first_number), above u.rows (suc k) n number, apart, more, is_put-more u.rows u.notes (k - 1) i, is_put-agrees)) in
+      Asks-next (asks is) (Asks-noted u v number rows noted some next way (ap (λ ps. b + 4 * length ps) (sym (places_noted rows ∙ places))) (asks is).has
       (λ all on_way two. absurd (omega (arith, high, one_level u.rows 2 (suc (suc k)) n two number))))

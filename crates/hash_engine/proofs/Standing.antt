@@ -143,7 +143,7 @@ below_some c (one s) is = grind arith
 below_some c (four nw ne sw se) is = below_some c nw is.0
 
 Adds-none : (all : List Square) (t : Table) → Adds all t t
-Adds-none all t = record { grows = Grows-same t; among = λ those has are. are }
+Adds-none all t = record { grows = Grows-same t; notes = refl; among = λ those has are. are }
 
 -- one square more of those that are listed, whose quadrants stand in a table on the way
 pub more_of : {all : List Square} {t m u v : Table} {k : ℕ} {kids : List ℕ} → Adds all t u → Grows m u → AreNumbers m.rows k kids →
@@ -153,6 +153,7 @@ more_of {all} {t} {m} {u} {v} {k} {kids} before then are has grows step =
     (λ n is. let made = StandsFor-joined are (then ⟫ grows) is (Grows-same v) in record { numbered = made.numbered; square = made.square }) in
     record {
       grows = before.grows ⟫ grows;
+      notes = joined.notes ∙ before.notes;
       among = λ those each rows.
           let one = All-cons (Contains those) _ [] (All-contains (Contains those) all _ each has) (All-nil (Contains those)) in
           joined.among those one (before.among those each rows);
@@ -167,7 +168,7 @@ pub first_listed : (s : Square) (all : List Square) → Contains (s ∷ all) s
 first_listed s all = Contains-get_or (s ∷ all) 0 s (omega arith)
 
 pub Adds-behind : {s : Square} {all : List Square} {t u : Table} → Adds all t u → Adds (s ∷ all) t u
-Adds-behind {s} {all} adds = record { grows = adds.grows; among = λ those each. adds.among those (All-tail (Contains those) s all each) }
+Adds-behind {s} {all} adds = record { grows = adds.grows; notes = adds.notes; among = λ those each. adds.among those (All-tail (Contains those) s all each) }
 
 -- the square that is joined, and no other
 pub Adds-made : {t u : Table} {k : ℕ} {kids : List ℕ} → AreNumbers t.rows k kids → Grows t u → GrowsBy kids t u → Adds (square_of t.rows k kids ∷ []) t u

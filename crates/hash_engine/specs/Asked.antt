@@ -3,7 +3,6 @@ use Rattle.std.specs.Prelude.{◌&&◌, not, Bool, cond, nat_lt, ℕ, zero, suc,
 use Rattle.worlds.specs.Square.{Square}
 use Rattle.square_table.specs.Squares.{Table, kid_at, first_number}
 use Rattle.hash_engine.specs.Memo.{IsPut}
-use Rattle.hash_engine.specs.declared.memo.Memo.{Memo}
 
 -- whether n is the number of a square of 4 by 4 cells: its first quadrant is a square, whose first
 -- quadrant is a cell
@@ -14,8 +13,8 @@ is_four rows n =
     && nat_lt (kid_at rows quadrant 0) first_number
 
 -- whether the square at the place i was put to the rule: its result one generation later is known
-unfoldable pub is_put : List (List ℕ) → Memo → ℕ → Bool
-is_put rows memo i = is_four rows (first_number + i) && nat_lt 0 (get_or memo.full.items i 0)
+unfoldable pub is_put : List (List ℕ) → List ℕ → ℕ → Bool
+is_put rows full i = is_four rows (first_number + i) && nat_lt 0 (get_or full i 0)
 
 -- the numbers below n that pass a test, the greatest first
 unfoldable pub picked : (ℕ → Bool) → ℕ → List ℕ
@@ -27,9 +26,9 @@ unfoldable pub places_of_four : List (List ℕ) → List ℕ
 places_of_four rows = picked (λ i. is_four rows (first_number + i)) (length rows)
 
 -- the places of the squares that were put to the rule
-unfoldable pub places_put : List (List ℕ) → Memo → List ℕ
-places_put rows memo = picked (is_put rows memo) (length rows)
+unfoldable pub places_put : Table → List ℕ
+places_put t = picked (is_put t.rows t.notes) (length t.rows)
 
 -- no square was put to the rule but these
-abbrev pub PutsOnly : List Square → Table → Memo → Type 0
-PutsOnly all t memo = (s : Square) → IsPut t.rows memo.full.items s → Contains all s
+abbrev pub PutsOnly : List Square → Table → Type 0
+PutsOnly all t = (s : Square) → IsPut t.rows t.notes s → Contains all s

@@ -38,7 +38,7 @@ pub record CanBeAsked (state_count : ℕ) (t : Table) (root : Square) : Type 0 w
 pub record CanSearch (next : List ℕ → ℕ) (state_count : ℕ) (t : Table) (memo : Memo) (root : Square)
     : Type 0 where
   pub asked : CanBeAsked state_count t root
-  pub right : IsRightMemo next t.rows memo
+  pub right : IsRightMemo next t memo
 
 -- the square is the one in the middle of the root so many generations later, in the table that came
 -- of the root's

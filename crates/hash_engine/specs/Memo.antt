@@ -1,7 +1,7 @@
 -- What is remembered.
-use Rattle.std.specs.Prelude.{◌≡◌, ◌≢◌, ℕ, suc, ◌+◌, ◌-◌, ◌^◌, ◌<◌, ◌≤◌, List, [], get_or, false}
+use Rattle.std.specs.Prelude.{◌≡◌, ◌≢◌, ℕ, suc, ◌+◌, ◌-◌, ◌^◌, ◌<◌, ◌≤◌, List, get_or, replicate, false}
 use Rattle.worlds.specs.Square.{Square}
-use Rattle.square_table.specs.Squares.{IsNumber, square_in, first_number}
+use Rattle.square_table.specs.Squares.{Table, IsNumber, square_in, first_number}
 use Rattle.square_table.specs.Made.{IsMade}
 use Rattle.hash_life.specs.Result.{result}
 use Rattle.hash_life.specs.Puts.{Puts}
@@ -25,11 +25,11 @@ pub record AreKnown (next : List ℕ → ℕ) (count : ℕ → ℕ) (rows : List
   pub right : (i : ℕ) → 0 < get_or known i 0 →
       (k : ℕ) × IsResult next rows k (count k) (first_number + i) (get_or known i 0)
 
--- each result that is remembered is right
-pub record IsRightMemo (next : List ℕ → ℕ) (rows : List (List ℕ)) (memo : Memo) : Type 0 where
-  pub full : AreKnown next (λ k. 2 ^ k) rows memo.full.items
-  pub part : AreKnown next (λ k. get_or memo.counts k 0) rows memo.part.items
-  pub blocks : AreKnownBlocks next rows memo.blocks.list.items
+-- each result that is remembered is right: those by the full counts are the table's notes
+pub record IsRightMemo (next : List ℕ → ℕ) (t : Table) (memo : Memo) : Type 0 where
+  pub full : AreKnown next (λ k. 2 ^ k) t.rows t.notes
+  pub part : AreKnown next (λ k. get_or memo.counts k 0) t.rows memo.part.items
+  pub blocks : AreKnownBlocks next t.rows memo.blocks.list.items
 
 -- the square is one of 4 by 4 cells that was put to the rule: its result by the full count is known
 pub record IsPut (rows : List (List ℕ)) (full : List ℕ) (s : Square) : Type 0 where
@@ -45,38 +45,42 @@ pub record AreWays (Way : ℕ → ℕ → Square → Type 0) (count : ℕ → �
       Way k (count k) (square_in rows (suc (suc k)) (first_number + i))
 
 -- so are those to all results that are remembered, and a search goes on so
-pub record HasWays (Way : ℕ → ℕ → Square → Type 0) (rows : List (List ℕ)) (memo : Memo)
-    : Type 0 where
+pub record HasWays (Way : ℕ → ℕ → Square → Type 0) (t : Table) (memo : Memo) : Type 0 where
   pub whole : memo.is_lean ≡ false
-  pub full : AreWays Way (λ k. 2 ^ k) rows memo.full.items
-  pub part : AreWays Way (λ k. get_or memo.counts k 0) rows memo.part.items
+  pub full : AreWays Way (λ k. 2 ^ k) t.rows t.notes
+  pub part : AreWays Way (λ k. get_or memo.counts k 0) t.rows memo.part.items
 
 -- what HashLife puts to the rule on the way was put to it, where the count isn't above the full one
-abbrev pub WasPut : (List ℕ → ℕ) → List (List ℕ) → List ℕ → ℕ → ℕ → Square → Type 0
-WasPut next rows full k generations s =
-    generations ≤ 2 ^ k → Puts next k generations s (IsPut rows full)
+abbrev pub WasPut : (List ℕ → ℕ) → Table → ℕ → ℕ → Square → Type 0
+WasPut next t k generations s =
+    generations ≤ 2 ^ k → Puts next k generations s (IsPut t.rows t.notes)
 
 -- all that HashLife makes on the way is there
 abbrev pub WasMade : (List ℕ → ℕ) → List (List ℕ) → ℕ → ℕ → Square → Type 0
 WasMade next rows k generations s = Makes next k generations s (IsMade rows)
 
 -- so it was on the ways to all results that are remembered
-abbrev pub HasPut : (List ℕ → ℕ) → List (List ℕ) → Memo → Type 0
-HasPut next rows memo = HasWays (WasPut next rows memo.full.items) rows memo
+abbrev pub HasPut : (List ℕ → ℕ) → Table → Memo → Type 0
+HasPut next t memo = HasWays (WasPut next t) t memo
 
-abbrev pub HasMade : (List ℕ → ℕ) → List (List ℕ) → Memo → Type 0
-HasMade next rows memo = HasWays (WasMade next rows) rows memo
+abbrev pub HasMade : (List ℕ → ℕ) → Table → Memo → Type 0
+HasMade next t memo = HasWays (WasMade next t.rows) t memo
 
 -- no result by a full count is remembered
-abbrev pub HasNoFull : Memo → Type 0
-HasNoFull memo = memo.full.items ≡ []
+abbrev pub HasNoFull : Table → Type 0
+HasNoFull t = t.notes ≡ replicate t.limit 0
 
 -- each result that is remembered is right, and none is of the square of 4 by 4 cells with the
 -- number n by one generation
-pub record IsAnew (next : List ℕ → ℕ) (rows : List (List ℕ)) (memo : Memo) (generations n : ℕ)
+pub record IsAnew (next : List ℕ → ℕ) (t : Table) (memo : Memo) (generations n : ℕ)
     : Type 0 where
-  pub right : IsRightMemo next rows memo
-  pub anew : generations ≡ 1 → get_or memo.full.items (n - first_number) 0 ≡ 0
+  pub right : IsRightMemo next t memo
+  pub anew : generations ≡ 1 → get_or t.notes (n - first_number) 0 ≡ 0
+
+-- the one table has the squares of the other, and perhaps other notes
+pub record KeepsRows (old new : Table) : Type 0 where
+  pub limit : new.limit ≡ old.limit
+  pub rows : new.rows ≡ old.rows
 
 -- the one list has this result at the place i, and is the other elsewhere
 pub record IsNoted (i r : ℕ) (old new : List ℕ) : Type 0 where
@@ -86,9 +90,10 @@ pub record IsNoted (i r : ℕ) (old new : List ℕ) : Type 0 where
 -- of a square of level k + 2 this result is remembered, among those by the full counts where its
 -- own is one; of the others no more than its own has changed, and only where it's by the other
 -- count
-pub record IsRemembered (k generations n r : ℕ) (old new : Memo) : Type 0 where
-  pub full : generations ≡ 2 ^ k → IsNoted (n - first_number) r old.full.items new.full.items
-  pub other : generations ≢ 2 ^ k → new.full.items ≡ old.full.items
+pub record IsRemembered (k generations n r : ℕ) (t : Table) (old : Memo) (u : Table) (new : Memo)
+    : Type 0 where
+  pub full : generations ≡ 2 ^ k → IsNoted (n - first_number) r t.notes u.notes
+  pub other : generations ≢ 2 ^ k → u.notes ≡ t.notes
   pub counts : new.counts ≡ old.counts
   pub part : generations ≡ get_or old.counts k 0 → (j : ℕ) → j ≢ n - first_number →
       get_or new.part.items j 0 ≡ get_or old.part.items j 0
@@ -97,49 +102,50 @@ pub record IsRemembered (k generations n r : ℕ) (old new : Memo) : Type 0 wher
   pub lean : new.is_lean ≡ old.is_lean
 
 -- r is the result of the square with the number n, if what is remembered is right
-abbrev pub RecallsResult : Memo → ℕ → ℕ → ℕ → ℕ → Type 0
-RecallsResult memo k generations n = λ r. (next : List ℕ → ℕ) (rows : List (List ℕ)) →
-    IsRightMemo next rows memo → IsNumber rows (suc (suc k)) n → IsResult next rows k generations n r
+abbrev pub RecallsResult : Table → Memo → ℕ → ℕ → ℕ → ℕ → Type 0
+RecallsResult t memo k generations n = λ r. (next : List ℕ → ℕ) →
+    IsRightMemo next t memo → IsNumber t.rows (suc (suc k)) n →
+    IsResult next t.rows k generations n r
 
 -- what is put to the rule on the way to the result was put to it, if that holds of all that is
 -- remembered
-abbrev pub RecallsPut : Memo → ℕ → ℕ → ℕ → Type 0
-RecallsPut memo k generations n = (next : List ℕ → ℕ) (rows : List (List ℕ)) →
-    HasPut next rows memo → IsNumber rows (suc (suc k)) n → generations ≤ 2 ^ k →
-    Puts next k generations (square_in rows (suc (suc k)) n) (IsPut rows memo.full.items)
+abbrev pub RecallsPut : Table → Memo → ℕ → ℕ → ℕ → Type 0
+RecallsPut t memo k generations n = (next : List ℕ → ℕ) →
+    HasPut next t memo → IsNumber t.rows (suc (suc k)) n → generations ≤ 2 ^ k →
+    Puts next k generations (square_in t.rows (suc (suc k)) n) (IsPut t.rows t.notes)
 
 -- what is made on the way to the result is there, if that holds of all that is remembered
-abbrev pub RecallsMade : Memo → ℕ → ℕ → ℕ → Type 0
-RecallsMade memo k generations n = (next : List ℕ → ℕ) (rows : List (List ℕ)) →
-    HasMade next rows memo → IsNumber rows (suc (suc k)) n →
-    Makes next k generations (square_in rows (suc (suc k)) n) (IsMade rows)
+abbrev pub RecallsMade : Table → Memo → ℕ → ℕ → ℕ → Type 0
+RecallsMade t memo k generations n = (next : List ℕ → ℕ) →
+    HasMade next t memo → IsNumber t.rows (suc (suc k)) n →
+    Makes next k generations (square_in t.rows (suc (suc k)) n) (IsMade t.rows)
 
 -- r is the result of the block one generation later, if what is remembered is right
 abbrev pub RecallsBlock : Memo → List ℕ → ℕ → Type 0
-RecallsBlock memo quadrants = λ r. (next : List ℕ → ℕ) (rows : List (List ℕ)) →
-    IsRightMemo next rows memo → IsLaterOf next rows quadrants r
+RecallsBlock memo quadrants = λ r. (next : List ℕ → ℕ) (t : Table) →
+    IsRightMemo next t memo → IsLaterOf next t.rows quadrants r
 
 -- what is remembered stays right with the result of this block, if that is one
 abbrev pub StaysRightWith : Block → Memo → Memo → Type 0
-StaysRightWith b old new = (next : List ℕ → ℕ) (rows : List (List ℕ)) →
-    IsRightMemo next rows old → IsKnownBlock next rows b → IsRightMemo next rows new
+StaysRightWith b old new = (next : List ℕ → ℕ) (t : Table) →
+    IsRightMemo next t old → IsKnownBlock next t.rows b → IsRightMemo next t new
 
 -- what is remembered stays right with this result, if that is one
-abbrev pub StaysRight : ℕ → ℕ → ℕ → ℕ → Memo → Memo → Type 0
-StaysRight k generations n r old new = (next : List ℕ → ℕ) (rows : List (List ℕ)) →
-    IsRightMemo next rows old → IsResult next rows k generations n r → IsRightMemo next rows new
+abbrev pub StaysRight : ℕ → ℕ → ℕ → ℕ → Table → Memo → Table → Memo → Type 0
+StaysRight k generations n r t old u new = (next : List ℕ → ℕ) →
+    IsRightMemo next t old → IsResult next t.rows k generations n r → IsRightMemo next u new
 
 -- whatever it was right for, it is right for still
 abbrev pub StaysRightFor : Memo → Memo → Type 0
-StaysRightFor old new = (next : List ℕ → ℕ) (rows : List (List ℕ)) →
-    IsRightMemo next rows old → IsRightMemo next rows new
+StaysRightFor old new = (next : List ℕ → ℕ) (t : Table) →
+    IsRightMemo next t old → IsRightMemo next t new
 
 -- if what is put to the rule on the ways to all that is remembered was put to it, it still was
 abbrev pub StaysPutFor : Memo → Memo → Type 0
-StaysPutFor old new = (next : List ℕ → ℕ) (rows : List (List ℕ)) →
-    HasPut next rows old → HasPut next rows new
+StaysPutFor old new = (next : List ℕ → ℕ) (t : Table) →
+    HasPut next t old → HasPut next t new
 
 -- if what is made on the ways to all that is remembered was there, it still is
 abbrev pub StaysMadeFor : Memo → Memo → Type 0
-StaysMadeFor old new = (next : List ℕ → ℕ) (rows : List (List ℕ)) →
-    HasMade next rows old → HasMade next rows new
+StaysMadeFor old new = (next : List ℕ → ℕ) (t : Table) →
+    HasMade next t old → HasMade next t new

@@ -3,7 +3,6 @@ ghost use Rattle.std.specs.Prelude.{◌≡◌, ◌≤◌, ◌<◌, ◌+◌, leng
 ghost use Rattle.square_table.specs.Squares.{first_number, AreDistinct};
 ghost use Rattle.hash_engine.specs.Asked.{is_four, places_of_four, places_put};
 
-use crate::memo::Memo;
 use square_table::SquareTable;
 
 // Below it numbers are those of cells.
@@ -31,8 +30,8 @@ fn is_four(table: &SquareTable<'_>, number: u32) -> bool
 }
 
 /// Goes through the squares of a table once.
-pub(crate) fn count_squares(table: &SquareTable<'_>, memo: &Memo) -> Counts
-    ensures put { result.base ≡ length (places_put table.now.rows memo.now) }
+pub(crate) fn count_squares(table: &SquareTable<'_>) -> Counts
+    ensures put { result.base ≡ length (places_put table.now) }
     ensures base { result.base ≤ result.fours }
     ensures fours { result.fours ≡ length (places_of_four table.now.rows) }
     ensures few { result.fours ≤ length table.now.rows }
@@ -42,7 +41,7 @@ pub(crate) fn count_squares(table: &SquareTable<'_>, memo: &Memo) -> Counts
     for place in 0..table.len() {
         if is_four(table, FIRST_NUMBER + place) {
             counts.fours += 1;
-            if memo.has_full(place) {
+            if table.noted(FIRST_NUMBER + place) > 0 {
                 counts.base += 1;
             }
         }

@@ -28,7 +28,7 @@ pub struct Found<'a> {
 }
 
 // The result of a square of level 2, by the rule, which isn't asked for it again.
-#[tactic(auto, using(crate::proofs::Standing::above))]
+#[tactic(auto, using(crate::proofs::Standing::above, crate::proofs::Standing::within))]
 #[inline(never)]
 fn put<Q: Ask>(
     table: &mut SquareTable<'_>,
@@ -42,7 +42,7 @@ fn put<Q: Ask>(
     ensures keeps { KeepsFor Q.meaning Q.state_count rule.old rule.new 0 ahead number
         table.old table.new memo.new }
     ensures found { IfOk result (FindsFor (Q.meaning rule.old) 0 ahead number
-        table.old memo.old table.new memo.new) }
+        table.old memo.old table.new) }
     ensures asks { OnOk result (AsksFor Q.meaning Q.asks 0 ahead number
         rule.old table.old memo.old rule.new table.new memo.new) }
     ensures made { OnOk result (MakesFor (Q.meaning rule.old) 0 ahead number
@@ -50,13 +50,13 @@ fn put<Q: Ask>(
     ensures full { result ≡ Err TableFault.NoRoom → IsFull table.new }
 {
     let made = parts::later(table, rule, number)?;
-    memo.remember(0, ahead, number, made)?;
+    memo.remember(table, 0, ahead, number, made)?;
     Ok(made)
 }
 
 // The result of a square of level k + 2, remembered or not. Most are, so that the look-up stands in
 // the loop that asks for several, and what it leads to doesn't.
-#[tactic(auto, using(crate::proofs::Standing::above))]
+#[tactic(auto, using(crate::proofs::Standing::above, crate::proofs::Standing::within))]
 #[cycle(forward)]
 #[inline(always)]
 fn forward<Q: Ask, S: Stop>(
@@ -74,7 +74,7 @@ fn forward<Q: Ask, S: Stop>(
         table.old table.new memo.new }
     ensures end { IsEnd table.new (S.yes_count stop.old) (S.yes_count stop.new) result }
     ensures found { IfOk result (FindsFor (Q.meaning rule.old) k ahead number
-        table.old memo.old table.new memo.new) }
+        table.old memo.old table.new) }
     ensures asks { OnOk result (AsksFor Q.meaning Q.asks k ahead number
         rule.old table.old memo.old rule.new table.new memo.new) }
     ensures made { OnOk result (MakesFor (Q.meaning rule.old) k ahead number
@@ -83,7 +83,7 @@ fn forward<Q: Ask, S: Stop>(
     if ahead == 0 {
         return Ok(parts::middle(table, number)?);
     }
-    if let Some(known) = memo.recall(k, ahead, number) {
+    if let Some(known) = memo.recall(table, k, ahead, number) {
         return Ok(known);
     }
     if stop.poll() {
@@ -93,7 +93,7 @@ fn forward<Q: Ask, S: Stop>(
         return Ok(put(table, memo, rule, ahead, number)?);
     }
     let made = compute(table, memo, rule, stop, k, ahead, number)?;
-    memo.remember(k, ahead, number, made)?;
+    memo.remember(table, k, ahead, number, made)?;
     Ok(made)
 }
 
@@ -115,7 +115,7 @@ fn compute<Q: Ask, S: Stop>(
         table.old table.new memo.new }
     ensures end { IsEnd table.new (S.yes_count stop.old) (S.yes_count stop.new) result }
     ensures found { IfOk result (FindsFor (Q.meaning rule.old) k ahead number
-        table.old memo.old table.new memo.new) }
+        table.old memo.old table.new) }
     ensures asks { OnOk result (AsksFor Q.meaning Q.asks k ahead number
         rule.old table.old memo.old rule.new table.new memo.new) }
     ensures made { OnOk result (MakesFor (Q.meaning rule.old) k ahead number
@@ -155,7 +155,7 @@ fn all_forward<Q: Ask, S: Stop>(
         table.old table.new memo.new }
     ensures end { IsEnd table.new (S.yes_count stop.old) (S.yes_count stop.new) result }
     ensures found { OnOk result (FindsForAll (Q.meaning rule.old) k ahead numbers.old
-        table.old memo.old table.new memo.new numbers.new) }
+        table.old memo.old table.new numbers.new) }
     ensures asks { OnOk result (AsksForAll Q.meaning Q.asks k ahead numbers.old
         rule.old table.old memo.old rule.new table.new memo.new) }
     ensures made { OnOk result (MakesForAll (Q.meaning rule.old) k ahead numbers.old
@@ -183,7 +183,7 @@ pub fn search<'a, Q: Ask, S: Stop>(
     requires { CanSearch (Q.meaning rule.old) (Q.state_count rule.old) table.old memo.old root }
     ensures grows { GrowsOnWay (Q.meaning rule.old) generations table.old root.entry table.new }
     ensures rule { KeepsRule Q.meaning Q.state_count rule.old rule.new }
-    ensures right { IsRightMemo (Q.meaning rule.old) table.new.rows memo.new }
+    ensures right { IsRightMemo (Q.meaning rule.old) table.new memo.new }
     ensures square { IfOk result
         (IsLater (Q.meaning rule.old) generations table.old root.entry table.new) }
     ensures end { IsEnd table.new (S.yes_count stop.old) (S.yes_count stop.new) result }
@@ -216,9 +216,10 @@ pub fn result<'a, Q: Ask, S: Stop>(
 {
     let k = root.level() - 2;
     let mut memo = Memo::nothing(alloc);
+    table.forget_notes();
     memo.turn_to(generations);
     let number = forward(table, &mut memo, rule, stop, k, generations, root.number())?;
-    let counts = count_squares(table, &memo);
+    let counts = count_squares(table);
     Ok(Found {
         square: table.square(k + 1, number)?,
         fours: counts.fours,

@@ -5,9 +5,10 @@
 //! `result` is the function of squares of `hash_life`, which is single steps by the law that stands
 //! there (R. Wm. Gosper, Exploiting Regularities in Large Cellular Spaces, Physica 10D, 1984). A
 //! square of level k + 2 is asked for nine results of level k + 1 and four of what these make. In one
-//! call a level is asked for two counts of generations at most, the full 2^k and one other, so that
-//! two lists by the squares' numbers remember all: 8 bytes a square. The rule is asked at level 2
-//! alone, four times for each distinct square of 4 by 4 cells that is put to it.
+//! call a level is asked for two counts of generations at most, the full 2^k and one other. Results by
+//! the full count are noted in the table, beside the quadrants of their squares, and a list by the
+//! squares' numbers remembers the others: 4 bytes a square. The rule is asked at level 2 alone, four
+//! times for each distinct square of 4 by 4 cells that is put to it.
 //!
 //! `search`, which goes on from what earlier calls found, makes no square that it doesn't need: blocks
 //! of 4 by 4 cells between those of a square of 8 by 8 are known by their quadrants alone, and where no

@@ -1,10 +1,11 @@
 //! What is remembered of a computation: the results by the numbers of their squares.
 
-ghost use Rattle.std.specs.Prelude.{◌≡◌, ◌+◌, ◌-◌, ◌^◌, ◌<◌, ◌≤◌, ℕ, List, get_or, nat_lt, IfSome, IfNone, OnOk, OnErr};
-ghost use Rattle.square_table.specs.Squares.{first_number};
-ghost use Rattle.hash_engine.specs.Memo.{IsRightMemo, IsNoted, IsRemembered, HasNoFull, HasPut, HasMade, RecallsResult, RecallsPut, RecallsMade, RecallsBlock, StaysRight, StaysRightWith, StaysRightFor, StaysPutFor, StaysMadeFor};
+ghost use Rattle.std.specs.Prelude.{◌≡◌, ◌+◌, ◌-◌, ◌^◌, ◌<◌, ◌≤◌, ℕ, List, length, get_or, IfSome, IfNone, OnOk, OnErr};
+ghost use Rattle.square_table.specs.Squares.{Table, first_number};
+ghost use Rattle.hash_engine.specs.Memo.{IsRightMemo, IsNoted, IsRemembered, KeepsRows, HasNoFull, HasPut, HasMade, RecallsResult, RecallsPut, RecallsMade, RecallsBlock, StaysRight, StaysRightWith, StaysRightFor, StaysPutFor, StaysMadeFor};
 
 use crate::block::{Block, Blocks};
+use square_table::SquareTable;
 use std::alloc::{AllocError, Global};
 
 // Below it numbers are those of cells.
@@ -19,11 +20,11 @@ pub(crate) fn full(k: u8) -> u64
 }
 
 /// The results that are known of a table's squares under one rule, for two counts of generations a
-/// level: the full one, and one other, which a search's generations decide.
+/// level: the full one, and one other, which a search's generations decide. Those by the full count are
+/// noted in the table.
 #[derive(Drop)]
 pub struct Memo {
-    // By the numbers of the squares, 0 where none is known.
-    full: Vec<u32>,
+    // Those by the other count, by the numbers of the squares, 0 where none is known.
     part: Vec<u32>,
     // Whether a search makes no square that it doesn't need, and the results of blocks that aren't
     // squares of the table then.
@@ -62,6 +63,20 @@ fn found(known: &[u32], number: u32) -> Option<u32>
     }
 }
 
+// The result that is noted in a table.
+fn noted(table: &SquareTable<'_>, number: u32) -> Option<u32>
+    requires above { first_number ≤ number }
+    requires there { number < first_number + length table.now.rows }
+    ensures some { IfSome result (λ r.
+        (0 < r) × (get_or table.now.notes (number - first_number) 0 ≡ r)) }
+    ensures none { IfNone result (get_or table.now.notes (number - first_number) 0 ≡ 0) }
+{
+    match table.noted(number) {
+        0 => None,
+        result => Some(result),
+    }
+}
+
 // A list that is too short grows by so many places, since results are mostly noted in the order in which
 // squares are made.
 const STEP: usize = 1024;
@@ -81,15 +96,14 @@ fn note(known: &mut Vec<u32>, number: u32, found: u32) -> Result<(), AllocError>
 }
 
 impl Memo {
-    /// Nothing yet.
+    /// Nothing yet, where nothing is noted in the table either.
+    #[tactic(auto, using(crate::proofs::Shared::no_full))]
     pub fn nothing(alloc: Global) -> Memo
-        ensures right { (next : List ℕ → ℕ) (rows : List (List ℕ)) → IsRightMemo next rows result }
-        ensures none { HasNoFull result }
-        ensures put { (next : List ℕ → ℕ) (rows : List (List ℕ)) → HasPut next rows result }
-        ensures made { (next : List ℕ → ℕ) (rows : List (List ℕ)) → HasMade next rows result }
+        ensures right { (next : List ℕ → ℕ) (t : Table) → HasNoFull t → IsRightMemo next t result }
+        ensures put { (next : List ℕ → ℕ) (t : Table) → HasNoFull t → HasPut next t result }
+        ensures made { (next : List ℕ → ℕ) (t : Table) → HasNoFull t → HasMade next t result }
     {
         Memo {
-            full: Vec::new(alloc),
             part: Vec::new(alloc),
             is_lean: false,
             blocks: Blocks::nothing(alloc),
@@ -98,11 +112,11 @@ impl Memo {
         }
     }
 
-    /// Gives up all results, and keeps their memory.
+    /// Gives up all results but the table's, and keeps their memory.
+    #[tactic(auto, using(crate::proofs::Shared::no_full))]
     pub fn clear(&mut self)
-        ensures { (next : List ℕ → ℕ) (rows : List (List ℕ)) → IsRightMemo next rows self.new }
+        ensures { (next : List ℕ → ℕ) (t : Table) → HasNoFull t → IsRightMemo next t self.new }
     {
-        Vec::clear(&mut self.full);
         Vec::clear(&mut self.part);
         self.blocks.clear();
     }
@@ -141,7 +155,6 @@ impl Memo {
         ensures right { StaysRightFor self.old self.new }
         ensures put { StaysPutFor self.old self.new }
         ensures made { StaysMadeFor self.old self.new }
-        ensures full { self.new.full.items ≡ self.old.full.items }
     {
         if generations == self.generations {
             return;
@@ -152,17 +165,24 @@ impl Memo {
     }
 
     /// The result of a square of level k + 2 by as many generations, where it is known.
-    pub(crate) fn recall(&self, k: u8, generations: u64, number: u32) -> Option<u32>
+    pub(crate) fn recall(
+        &self,
+        table: &SquareTable<'_>,
+        k: u8,
+        generations: u64,
+        number: u32,
+    ) -> Option<u32>
         requires k { k ≤ 61 }
-        requires number { first_number ≤ number }
-        ensures some { IfSome result (RecallsResult self.now k generations number) }
-        ensures put { IfSome result (λ _. RecallsPut self.now k generations number) }
-        ensures made { IfSome result (λ _. RecallsMade self.now k generations number) }
+        requires above { first_number ≤ number }
+        requires there { number < first_number + length table.now.rows }
+        ensures some { IfSome result (RecallsResult table.now self.now k generations number) }
+        ensures put { IfSome result (λ _. RecallsPut table.now self.now k generations number) }
+        ensures made { IfSome result (λ _. RecallsMade table.now self.now k generations number) }
         ensures none { IfNone result (generations ≡ 2 ^ k →
-            get_or self.now.full.items (number - first_number) 0 ≡ 0) }
+            get_or table.now.notes (number - first_number) 0 ≡ 0) }
     {
         if generations == full(k) {
-            found(&self.full, number)
+            noted(table, number)
         } else if generations == self.counts[usize::from(k)] {
             found(&self.part, number)
         } else {
@@ -170,31 +190,28 @@ impl Memo {
         }
     }
 
-    /// Whether the result of the square at this place by the full count is known.
-    pub(crate) fn has_full(&self, place: u32) -> bool
-        ensures { result ≡ nat_lt 0 (get_or self.now.full.items place 0) }
-    {
-        match self.full.get(place as usize) {
-            None | Some(0) => false,
-            Some(_) => true,
-        }
-    }
-
     /// Remembers it. After a refusal what was known is known still.
     pub(crate) fn remember(
         &mut self,
+        table: &mut SquareTable<'_>,
         k: u8,
         generations: u64,
         number: u32,
         found: u32,
     ) -> Result<(), AllocError>
         requires k { k ≤ 61 }
-        requires number { first_number ≤ number }
-        ensures right { StaysRight k generations number found self.old self.new }
-        ensures noted { OnOk result (IsRemembered k generations number found self.old self.new) }
+        requires above { first_number ≤ number }
+        requires there { number < first_number + length table.old.rows }
+        requires found { found < first_number + length table.old.rows }
+        ensures rows { KeepsRows table.old table.new }
+        ensures right { StaysRight k generations number found
+            table.old self.old table.new self.new }
+        ensures noted { OnOk result (IsRemembered k generations number found
+            table.old self.old table.new self.new) }
     {
         if generations == full(k) {
-            note(&mut self.full, number, found)
+            table.note(number, found);
+            Ok(())
         } else if generations == self.counts[usize::from(k)] {
             note(&mut self.part, number, found)
         } else {

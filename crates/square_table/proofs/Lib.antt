@@ -1,3 +1,4 @@
+pub mod Noted
 pub mod Probing
 pub mod Shared
 pub mod Loading

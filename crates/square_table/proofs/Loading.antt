@@ -14,7 +14,7 @@ use Rattle.square_table.specs.Squares.{Table, IsNumber, AreNumbers, square_in, s
 use Rattle.square_table.specs.Made.{IsAmong, HasEmpty}
 use Rattle.square_table.specs.Loading.{AreBlanks, IsLoadedAt, AreLoaded, number_in, LevelsUpTo, CellsBelow, GrowsFrom, HasRows}
 use Rattle.square_table.proofs.Shared.Tables.{kept_row, last_row}
-use Rattle.square_table.proofs.Shared.Making.{AreAmong-joined, IsFor, IsAmong-for}
+use Rattle.square_table.proofs.Shared.Making.{notes_joined, AreAmong-joined, IsFor, IsAmong-for}
 use Rattle.square_table.proofs.Shared.Growth.{Grows-same, Grows-then, IsNumber-grows, square_in-grows, AreNumbers-grows, square_of-grows, IsNumber-joined, square_in-joined}
 
 -- numbers of cells
@@ -41,7 +41,7 @@ above_states rows k n h = h.0
 
 -- growth
 pub GrowsFrom-same : (level : ℕ) (squares : List SquareRow) (t : Table) → GrowsFrom level squares t t
-GrowsFrom-same level squares t = record { grows = Grows-same t; states = λ c some below h. h; among = λ all empty listed h. h }
+GrowsFrom-same level squares t = record { grows = Grows-same t; notes = refl; states = λ c some below h. h; among = λ all empty listed h. h }
 
 pub GrowsFrom-then : (level : ℕ) (squares : List SquareRow) (t u v : Table) → GrowsFrom level squares t u → GrowsFrom level squares u v → GrowsFrom level squares t v
 GrowsFrom-then level squares t u v first second = grind (arith, Grows-then)
@@ -63,6 +63,7 @@ pub GrowsFrom-joined : (level : ℕ) (squares : List SquareRow) (kids : List ℕ
     → ((all : List Square) (n : ℕ) → HasEmpty all level → HasRows all squares → IsSquareOf u.rows kids n → IsAmong all u.rows n) → GrowsFrom level squares t u
 GrowsFrom-joined level squares kids t u grows step new made = record {
   grows = grows;
+  notes = notes_joined kids step;
   states = λ c some below h. elim step [
     | inl same ↦ subst (λ (v : Table). AllStatesBelow c v.rows) (sym same) h
     | inr more ↦ subst (λ (v : Table). AllStatesBelow c v.rows) (sym more) (states-more c t.rows kids (λ q hq. new c q some below hq) h)

@@ -1,11 +1,12 @@
 -- Rows that slots lead to.
-use Rattle.std.proofs.Common.{◌≡◌, ℕ, zero, suc, ◌+◌, ◌-◌, ◌⊎◌, ◌<◌, List, [], ◌∷◌, ◌++◌, length, take, drop, get_or, slice_index_or, slice_set, refl, sym, ◌∙◌, ap, subst, add-one, arith, inl, inr}
+use Rattle.std.proofs.Common.{◌≡◌, ℕ, zero, suc, ◌+◌, ◌-◌, ◌⊎◌, ◌<◌, List, [], ◌∷◌, ◌++◌, length, get_or, slice_index_or, slice_set, refl, sym, ◌∙◌, ap, subst, add-one, arith, inl, inr}
 use Rattle.std.proofs.lemmas.Bool.{cases_lt, cases_eq}
-use Rattle.std.proofs.lemmas.Grind.{common_steps}
-use Rattle.std.proofs.lemmas.List.{get_or-set_same, get_or-set_other, get_or_append_left, get_or_push, length-set, length_push}
+use Rattle.std.proofs.lemmas.List.{get_or-set_same, get_or-set_other, get_or_append_left, get_or_push, length-map, length-set, length_push, map_push}
 use Rattle.std.proofs.lemmas.Nat.{and_le_r}
 use Rattle.square_table.specs.Squares.{Lacks}
+use Rattle.square_table.specs.declared.row.Row.{Row}
 use Rattle.square_table.specs.declared.slots.Slot.{Slot}
+use Rattle.square_table.specs.Rows.{kids_in, kids_of}
 use Rattle.square_table.specs.Slots.{mark_of, tag_of, tag_in, row_in, first_of, next_of, way, IsUsed, IsFreeFor, LeadsTo, FindsRows, AreEmpty}
 
 -- a way stays among the slots
@@ -126,6 +127,17 @@ finds_added rows new kids slots mark free slot finds found own added row tag =
     let mine : mark ≡ mark_of (get_or all (length rows) []) = own ∙ ap mark_of (sym (get_or_push rows kids [] (length rows) refl)) in
     rw (long, added) (finds_next all (length rows) slots mark free slot (finds_more rows kids slots finds) found mine (row ∙ long) tag)
 
+-- the count of rows is that of their quadrants
+pub finds_kids : (rows : List Row) (slots : List Slot) → FindsRows (kids_of rows) (length rows) slots → FindsRows (kids_of rows) (length (kids_of rows)) slots
+finds_kids rows slots is = subst (λ n. FindsRows (kids_of rows) n slots) (sym (length-map rows kids_in)) is
+
+pub finds_row : (rows new : List Row) (row : Row) (slots : List Slot) (mark free : ℕ) (slot : Slot) → FindsRows (kids_of rows) (length rows) slots → IsFreeFor slots mark free → mark ≡ mark_of (kids_in row)
+    → new ≡ rows ++ row ∷ [] → row_in slot ≡ length new → tag_in slot ≡ tag_of mark → FindsRows (kids_of new) (length new) (slice_set slots free slot)
+finds_row rows new row slots mark free slot finds found own added place tag =
+    subst (λ n. FindsRows (kids_of new) n (slice_set slots free slot)) (length-map new kids_in)
+    (finds_added (kids_of rows) (kids_of new) (kids_in row) slots mark free slot (finds_kids rows slots finds) found own
+    (ap kids_of added ∙ map_push kids_in rows row) (place ∙ sym (length-map new kids_in)) tag)
+
 -- so many slots of a way are in use, and lead to no row of these quadrants
 pub record HasPassed (rows : List (List ℕ)) (slots : List Slot) (kids : List ℕ) (mark steps : ℕ) : Type 0 where
   pub used : IsUsed slots mark steps
@@ -170,7 +182,3 @@ lacks_passed rows slots kids mark steps d finds own passed ends i h is =
         ]
       ]
     ]
-
--- a slice written over all of a vector
-pub whole : (n : ℕ) (xs ys : List Slot) → n ≡ length ys → length xs ≡ length ys → xs ≡ take n (xs ++ drop (length xs) ys)
-whole n xs ys e f = grind (arith, common_steps)

@@ -60,9 +60,11 @@ row_square squares i = listed.square_in squares (get_or squares i no_row).level 
 abbrev pub HasRows : List Square → List SquareRow → Type 0
 HasRows all squares = (i : ℕ) → i < length squares → Contains all (row_square squares i)
 
--- the table has more rows, or none: of a plane's squares, and of empty ones below this level
+-- the table has more rows, or none: of a plane's squares, and of empty ones below this level; its
+-- notes are the same
 pub record GrowsFrom (level : ℕ) (squares : List SquareRow) (old new : Table) : Type 0 where
   pub grows : Grows old new
+  pub notes : new.notes ≡ old.notes
   pub states : (c : ℕ) → 0 < c → CellsBelow c squares →
       AllStatesBelow c old.rows → AllStatesBelow c new.rows
   pub among : (all : List Square) → HasEmpty all level → HasRows all squares →
@@ -73,9 +75,11 @@ abbrev pub empty_below : List SquareRow → ℕ
 empty_below [] = 2
 empty_below (row ∷ rows) = root_level (row ∷ rows)
 
--- the table has more rows, or none, of squares that a world starts with up to a level that holds it
+-- the table has more rows, or none, of squares that a world starts with up to a level that holds it,
+-- and the same notes
 pub record GrowsFor (w : World) (old new : Table) : Type 0 where
   pub grows : Grows old new
+  pub notes : new.notes ≡ old.notes
   pub among : (k : ℕ) (all : List Square) → 1 ≤ k → Fits k w → HasStart all w k →
       AreAmong all old.rows → AreAmong all new.rows
 

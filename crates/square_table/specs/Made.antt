@@ -22,9 +22,10 @@ pub record IsMade (rows : List (List ℕ)) (s : Square) : Type 0 where
 pub record AreAmong (squares : List Square) (rows : List (List ℕ)) : Type 0 where
   pub each : (i : ℕ) → i < length rows → IsAmong squares rows (first_number + i)
 
--- the one table with more rows, or none, of these squares is the other
+-- the one table with more rows, or none, of these squares is the other, with the same notes
 pub record Adds (made : List Square) (old new : Table) : Type 0 where
   pub grows : Grows old new
+  pub notes : new.notes ≡ old.notes
   pub among : (all : List Square) → All (Contains all) made →
       AreAmong all old.rows → AreAmong all new.rows
 

@@ -1,5 +1,5 @@
 -- What the numbers of a table mean.
-use Rattle.std.specs.Prelude.{◌≡◌, ◌↔◌, ◌⊎◌, ℕ, zero, suc, ◌+◌, ◌-◌, ◌<◌, ◌≤◌, List, [], ◌∷◌, ◌++◌, length, get_or, slice_index_or}
+use Rattle.std.specs.Prelude.{◌≡◌, ◌↔◌, ◌⊎◌, ℕ, zero, suc, ◌+◌, ◌-◌, ◌<◌, ◌≤◌, List, [], ◌∷◌, ◌++◌, length, get_or, slice_index_or, slice_set, replicate}
 use Rattle.worlds.specs.Square as squares
 use Rattle.worlds.specs.Square.{one, four}
 use Rattle.square_table.specs.declared.square.Square.{Square}
@@ -8,11 +8,16 @@ use Rattle.square_table.specs.declared.square.Square.{Square}
 abbrev pub first_number : ℕ
 first_number = 256
 
--- what contracts see of a table: the quadrants of each square, in the order of numbers, and how
--- many squares it may hold
+-- what contracts see of a table: the quadrants of each square, in the order of numbers, how many
+-- squares it may hold, and for as many what is noted of each, or 0
 pub record Table : Type 0 where
   pub rows : List (List ℕ)
   pub limit : ℕ
+  pub notes : List ℕ
+
+-- a table with no square
+abbrev pub no_squares : ℕ → Table
+no_squares limit = record { rows = []; limit = limit; notes = replicate limit 0 }
 
 -- the quadrants of the square with this number
 abbrev pub kids_at : List (List ℕ) → ℕ → List ℕ
@@ -118,7 +123,19 @@ pub record IsJoined (t : Table) (quadrants : List Square) (u : Table) (s : Squar
 
 -- the table with one more row
 abbrev pub with_row : Table → List ℕ → Table
-with_row t kids = record { rows = t.rows ++ kids ∷ []; limit = t.limit }
+with_row t kids = record { rows = t.rows ++ kids ∷ []; limit = t.limit; notes = t.notes }
+
+-- the table where r is noted of the square with the number n instead
+abbrev pub with_note : Table → ℕ → ℕ → Table
+with_note t n r = record {
+  rows = t.rows;
+  limit = t.limit;
+  notes = slice_set t.notes (n - first_number) r;
+}
+
+-- the table where nothing is noted
+abbrev pub without_notes : Table → Table
+without_notes t = record { rows = t.rows; limit = t.limit; notes = replicate t.limit 0 }
 
 -- each state among the quadrants of the rows is below c
 pub record AllStatesBelow (c : ℕ) (rows : List (List ℕ)) : Type 0 where

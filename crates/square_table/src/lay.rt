@@ -24,6 +24,7 @@ impl<'a> SquareTable<'a> {
         requires number { IsNumber self.old.rows level number }
         requires level { HasLevel level (quadtree tree.now) }
         ensures grows { Grows self.old self.new }
+        ensures notes { self.new.notes ≡ self.old.notes }
         ensures laid { IfOk result
             (IsLaidAs (quadtree tree.now) self.old.rows level number self.new.rows) }
         ensures full { result ≡ Err TableFault.NoRoom → IsFull self.new }
@@ -50,6 +51,7 @@ impl<'a> SquareTable<'a> {
         requires kids { AreNumbers self.old.rows (level - 1) kids }
         requires level { HasLevel level (quadtree_of_four four.now) }
         ensures grows { Grows self.old self.new }
+        ensures notes { self.new.notes ≡ self.old.notes }
         ensures laid { IfOk result (AreLaidAs (quadtree_of_four four.now)
             self.old.rows (level - 1) kids self.new.rows) }
         ensures full { result ≡ Err TableFault.NoRoom → IsFull self.new }
@@ -76,6 +78,7 @@ impl<'a> SquareTable<'a> {
         requires number { IsNumber self.old.rows level number × (corner < 4) }
         requires levels { HasLevel tree_level (quadtree tree.now) × (tree_level ≤ level) }
         ensures grows { Grows self.old self.new }
+        ensures notes { self.new.notes ≡ self.old.notes }
         ensures laid { IfOk result
             (IsLaidInCorner corner tree_level (quadtree tree.now) self.old level number self.new) }
         ensures full { result ≡ Err TableFault.NoRoom → IsFull self.new }
@@ -100,6 +103,7 @@ impl<'a> SquareTable<'a> {
         requires kids { AreNumbers self.old.rows (level - 1) kids }
         requires levels { HasLevel tree_level (quadtree_of_four four.now) × (tree_level ≤ level) }
         ensures grows { Grows self.old self.new }
+        ensures notes { self.new.notes ≡ self.old.notes }
         ensures laid { IfOk result
             (AreLaidInMiddle tree_level (quadtree_of_four four.now) self.old level kids self.new) }
         ensures full { result ≡ Err TableFault.NoRoom → IsFull self.new }
@@ -125,6 +129,7 @@ impl<'a> SquareTable<'a> {
         requires number { IsNumber self.old.rows level number }
         requires levels { HasLevel tree_level (quadtree tree.now) × (tree_level ≤ level) }
         ensures grows { Grows self.old self.new }
+        ensures notes { self.new.notes ≡ self.old.notes }
         ensures laid { IfOk result
             (IsLaidInMiddle tree_level (quadtree tree.now) self.old level number self.new) }
         ensures full { result ≡ Err TableFault.NoRoom → IsFull self.new }
@@ -160,6 +165,7 @@ impl<'a> SquareTable<'a> {
         requires held { IsHeld self.old square }
         requires level { patch.now.level ≤ level_of square }
         ensures grows { Grows self.old self.new }
+        ensures notes { self.new.notes ≡ self.old.notes }
         ensures laid { IfOk result (IsLaidOn patch.now self.old square.entry self.new) }
         ensures full { result ≡ Err TableFault.NoRoom → IsFull self.new }
     {

@@ -2,8 +2,10 @@
 //! whose slots lead to the rows of a table.
 ghost use Rattle.std.specs.Prelude.{◌≡◌, ℕ, ◌^◌, ◌<◌, ◌≤◌, ◌+◌, [], ◌∷◌, ◌++◌, length, IfOk, IfErr, IfSome, OnOk, OnErr, vec_len, IsTrue, ◌↔◌};
 ghost use Rattle.square_table.specs.Squares.{Lacks};
+ghost use Rattle.square_table.specs.Rows.{kids_in, kids_of};
 ghost use Rattle.square_table.specs.Slots.{mark_of, tag_of, tag_in, row_in, row_range, first_of, next_of, AreEmpty, AreWithin, FindsRows, IsFreeFor, IsRowOf};
 
+use crate::row::Row;
 use std::alloc::{AllocError, Global};
 
 // More slots than this aren't made: there are never more than half as many rows.
@@ -107,15 +109,15 @@ pub fn marked(slots: &[Slot], mark: u32) -> u32
 /// Goes the way of a mark until it finds the row of these quadrants, which is Ok by its place, or a
 /// free slot. Err None where there is neither.
 pub fn search(
-    rows: &[[u32; 4]],
+    rows: &[Row],
     slots: &[Slot],
     mark: u32,
     kids: &[u32; 4],
 ) -> Result<u32, Option<usize>>
-    requires finds { FindsRows rows.now (length rows.now) slots.now }
+    requires finds { FindsRows (kids_of rows.now) (length rows.now) slots.now }
     requires mark { mark ≡ mark_of kids.now }
-    ensures found { IfOk result (IsRowOf rows.now kids.now) }
-    ensures absent { IfErr result (λ _. Lacks rows.now kids.now) }
+    ensures found { IfOk result (IsRowOf (kids_of rows.now) kids.now) }
+    ensures absent { IfErr result (λ _. Lacks (kids_of rows.now) kids.now) }
     ensures free { IfErr result (λ free. IfSome free (IsFreeFor slots.now mark)) }
 {
     let mut at = first(mark, slots.len());
@@ -125,7 +127,7 @@ pub fn search(
             return Err(Some(at));
         }
         let place = slot.row() - 1;
-        if slot.has_tag(mark) && is_same(&rows[place as usize], kids) {
+        if slot.has_tag(mark) && is_same(&rows[place as usize].kids(), kids) {
             return Ok(place);
         }
         at = next(at, slots.len());
@@ -133,22 +135,22 @@ pub fn search(
     Err(None)
 }
 
-/// Adds a row for quadrants that have none, and leads to it by a free slot of its mark.
+/// Adds a row of quadrants that have none, and leads to it by a free slot of its mark.
 pub fn append(
-    rows: &mut Vec<[u32; 4]>,
+    rows: &mut Vec<Row>,
     slots: &mut [Slot],
     free: usize,
     mark: u32,
-    kids: [u32; 4],
+    row: Row,
 ) -> Result<(), AllocError>
-    requires finds { FindsRows rows.old.items (length rows.old.items) slots.old }
+    requires finds { FindsRows (kids_of rows.old.items) (length rows.old.items) slots.old }
     requires room { length rows.old.items + 1 < row_range }
-    requires free { (mark ≡ mark_of kids) × IsFreeFor slots.old mark free }
-    ensures finds { FindsRows rows.new.items (length rows.new.items) slots.new }
-    ensures ok { OnOk result (rows.new.items ≡ rows.old.items ++ kids ∷ []) }
+    requires free { (mark ≡ mark_of (kids_in row)) × IsFreeFor slots.old mark free }
+    ensures finds { FindsRows (kids_of rows.new.items) (length rows.new.items) slots.new }
+    ensures ok { OnOk result (rows.new.items ≡ rows.old.items ++ row ∷ []) }
     ensures err { OnErr result ((rows.new.items ≡ rows.old.items) × (slots.new ≡ slots.old)) }
 {
-    rows.push(kids)?;
+    rows.push(row)?;
     slots[free] = Slot::new(mark, rows.len() as u32);
     Ok(())
 }
@@ -169,15 +171,15 @@ fn free_slot(slots: &[Slot], mark: u32) -> Option<usize>
 }
 
 // Takes a free slot for each row, and says whether there were enough.
-fn spread(rows: &[[u32; 4]], wider: &mut [Slot]) -> bool
+fn spread(rows: &[Row], wider: &mut [Slot]) -> bool
     requires some { 0 < length wider.old }
     requires empty { AreEmpty wider.old }
     requires few { length rows.now < row_range }
-    ensures finds { IsTrue result → FindsRows rows.now (length rows.now) wider.new }
+    ensures finds { IsTrue result → FindsRows (kids_of rows.now) (length rows.now) wider.new }
     ensures count { length wider.new ≡ length wider.old }
 {
-    for (place, kids) in rows.iter().enumerate() {
-        let mark = mark(kids);
+    for (place, row) in rows.iter().enumerate() {
+        let mark = mark(&row.kids());
         let Some(free) = free_slot(wider, mark) else {
             return false;
         };
@@ -203,10 +205,10 @@ pub fn empty(slots: &mut [Slot])
 }
 
 /// Twice as many slots, where there is memory for them; a table with too few is only slower.
-pub fn widen(alloc: Global, rows: &[[u32; 4]], slots: &mut Vec<Slot>)
-    requires finds { FindsRows rows.now (length rows.now) slots.old.items }
+pub fn widen(alloc: Global, rows: &[Row], slots: &mut Vec<Slot>)
+    requires finds { FindsRows (kids_of rows.now) (length rows.now) slots.old.items }
     requires few { length rows.now < row_range }
-    ensures { FindsRows rows.now (length rows.now) slots.new.items }
+    ensures { FindsRows (kids_of rows.now) (length rows.now) slots.new.items }
 {
     if slots.len() >= MOST_SLOTS {
         return;

@@ -1,13 +1,14 @@
 //! The distinct squares of one computation.
-ghost use Rattle.std.specs.Prelude.{◌≡◌, ℕ, ◌+◌, ◌-◌, ◌^◌, ◌<◌, ◌≤◌, length, map, slice_index_or, vec_len, [], ◌∷◌, ◌++◌, IfOk, IfSome, IfNone, OnOk, OnErr, Err};
+ghost use Rattle.std.specs.Prelude.{◌≡◌, ℕ, get_or, ◌+◌, ◌-◌, ◌^◌, ◌<◌, ◌≤◌, length, map, slice_index_or, vec_len, [], ◌∷◌, ◌++◌, IfOk, IfSome, IfNone, OnOk, OnErr, Err};
 ghost use Rattle.worlds.specs.Square.{one, empty_square};
 ghost use Rattle.square_table.specs.Slots.{FindsRows};
-ghost use Rattle.square_table.specs.Squares.{Table, IsNumber, IsHeld, IsSquareOf, Grows, GrowsBy, KeepsSquares, AreFour, IsJoined, Lacks, Tells, with_row, first_number, kids_at, level_of, number_of, AreDistinct};
+ghost use Rattle.square_table.specs.Squares.{Table, no_squares, with_note, without_notes, IsNumber, IsHeld, IsSquareOf, Grows, GrowsBy, KeepsSquares, AreFour, IsJoined, Lacks, Tells, with_row, first_number, kids_at, level_of, number_of, AreDistinct};
 ghost use Rattle.square_table.specs.Made.{IsFull};
 ghost use Rattle.square_table.specs.Loading.{GrowsFrom};
 ghost use Rattle.square_table.specs.declared.square.Square.{Square};
 
 use crate::fault::TableFault;
+use crate::row::{Row, forget, note};
 use crate::slots::{Slot, append, empty, free_slots, is_same, mark, marked, search, widen};
 use crate::square::Square;
 use bumpalo::Bump;
@@ -24,12 +25,12 @@ const FEWEST_SLOTS: usize = 1024;
 /// quadrants of its handles.
 ///
 /// Contracts see the quadrants of each square by their numbers, in the order in which the squares
-/// were made, and how many squares the table may hold.
+/// were made, how many squares the table may hold, and what is noted of each.
 #[derive(Drop)]
 pub struct SquareTable<'a> {
     arena: &'a Bump,
     none: &'a [u32; 4],
-    rows: Vec<[u32; 4]>,
+    rows: Vec<Row>,
     slots: Vec<Slot>,
     // What a packing renumbers squares by, for the next one.
     places: Vec<u32>,
@@ -39,14 +40,15 @@ pub struct SquareTable<'a> {
 
 impl<'a> Model for SquareTable<'a> {
     ghost use Rattle.std.specs.Prelude.{◌≤◌, length};
+    ghost use Rattle.square_table.specs.Rows.{kids_of, notes_of};
     ghost use Rattle.square_table.specs.Slots.{FindsRows};
-    ghost use Rattle.square_table.specs.Squares.{Table, AreDistinct};
+    ghost use Rattle.square_table.specs.Squares.{Table, no_squares, with_note, without_notes, AreDistinct};
 
     ghost Value = { Table };
 
-    ghost view = { λ t. record { rows = t.rows.items; limit = t.limit } };
+    ghost view = { λ t. record { rows = kids_of t.rows.items; limit = t.limit; notes = notes_of t.rows.items t.limit } };
 
-    ghost invariant = { λ t. FindsRows t.rows.items (length t.rows.items) t.slots.items × AreDistinct t.rows.items × (length t.rows.items ≤ t.limit) × (t.limit ≤ 16777216) };
+    ghost invariant = { λ t. FindsRows (kids_of t.rows.items) (length t.rows.items) t.slots.items × AreDistinct (kids_of t.rows.items) × (length t.rows.items ≤ t.limit) × (t.limit ≤ 16777216) };
 }
 
 // Four numbers, placed in the arena for good.
@@ -74,7 +76,7 @@ impl<'a> SquareTable<'a> {
     /// A table with no square, that may hold up to `limit`, at most 16,777,216.
     pub fn new(alloc: Global, arena: &'a Bump, limit: u32) -> Result<SquareTable<'a>, AllocError>
         requires { limit ≤ 16777216 }
-        ensures { IfOk result (λ t. t ≡ record { rows = []; limit = limit }) }
+        ensures { IfOk result (λ t. t ≡ no_squares limit) }
     {
         Ok(SquareTable {
             arena,
@@ -90,7 +92,7 @@ impl<'a> SquareTable<'a> {
     /// Gives up all squares. It keeps their memory, so that as many more take no more time than those
     /// that they replace, and no slot is made anew.
     pub fn clear(&mut self)
-        ensures { self.new ≡ record { rows = []; limit = self.old.limit } }
+        ensures { self.new ≡ no_squares self.old.limit }
     {
         self.rows.clear();
         empty(&mut self.slots);
@@ -172,14 +174,43 @@ impl<'a> SquareTable<'a> {
         requires there { number < first_number + length self.now.rows }
         ensures { result ≡ kids_at self.now.rows number }
     {
-        self.rows[(number - FIRST_NUMBER) as usize]
+        self.rows[(number - FIRST_NUMBER) as usize].kids()
+    }
+
+    /// What is noted of the square with this number, or 0.
+    pub fn noted(&self, number: u32) -> u32
+        requires above { first_number ≤ number }
+        requires there { number < first_number + length self.now.rows }
+        ensures { result ≡ get_or self.now.notes (number - first_number) 0 }
+    {
+        self.rows[(number - FIRST_NUMBER) as usize].note()
+    }
+
+    /// Notes this number of the square with a number, as long as the table keeps the square. It is one
+    /// that a square has, or 0.
+    pub fn note(&mut self, number: u32, noted: u32)
+        requires above { first_number ≤ number }
+        requires there { number < first_number + length self.old.rows }
+        requires noted { noted < first_number + length self.old.rows }
+        ensures table { self.new ≡ with_note self.old number noted }
+        ensures noted { get_or self.new.notes (number - first_number) 0 ≡ noted }
+    {
+        note(&mut self.rows, (number - FIRST_NUMBER) as usize, noted);
+    }
+
+    /// Notes 0 of all squares. It takes a step for each of them.
+    pub fn forget_notes(&mut self)
+        ensures { self.new ≡ without_notes self.old }
+    {
+        forget(&mut self.rows);
     }
 
     /// The number of the square whose quadrants nw, ne, sw and se have these numbers.
     ///
     /// It stands for a square where the four are numbers of one level. NoRoom where it isn't there
-    /// yet and the table holds as many as it may; NoMemory where a growth was refused. A refused call
-    /// leaves the table as it was.
+    /// yet and the table holds as many as it may; NoMemory where a growth was refused, or where a row
+    /// has no room for one of the four, as it has for those of all squares. A refused call leaves the
+    /// table as it was.
     pub fn join_numbers(&mut self, kids: [u32; 4]) -> Result<u32, TableFault>
         ensures grows { Grows self.old self.new }
         ensures one { GrowsBy kids self.old self.new }
@@ -198,7 +229,8 @@ impl<'a> SquareTable<'a> {
                 }
                 // (none is free only where more were refused for want of memory)
                 let free = free.ok_or(TableFault::NoMemory)?;
-                append(&mut self.rows, &mut self.slots, free, mark, kids)?;
+                let row = Row::new(kids).ok_or(TableFault::NoMemory)?;
+                append(&mut self.rows, &mut self.slots, free, mark, row)?;
                 Ok(FIRST_NUMBER + count)
             }
         }
@@ -224,7 +256,7 @@ impl<'a> SquareTable<'a> {
     {
         if let Some(at) = guess.checked_sub(FIRST_NUMBER)
             && let Some(row) = self.rows.get(at as usize)
-            && is_same(row, &kids)
+            && is_same(&row.kids(), &kids)
         {
             return Ok(guess);
         }

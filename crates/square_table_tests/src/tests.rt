@@ -71,6 +71,68 @@ fn a_cleared_table_begins_anew(rt: HostRuntime) {
 }
 
 #[test]
+fn notes_are_each_of_one_square(rt: HostRuntime) {
+    let arena = Bump::new(rt.alloc());
+    let mut table = SquareTable::new(rt.alloc(), &arena, 3).expect(&rt, "memory");
+    assert_eq!(&rt; table.join_numbers([255, 0, 0, 1]).expect(&rt, "room"), 256);
+    assert_eq!(&rt; table.join_numbers([0, 0, 0, 255]).expect(&rt, "room"), 257);
+    assert_eq!(&rt; table.noted(256), 0);
+    table.note(256, 257);
+    assert_eq!(&rt; table.noted(256), 257);
+    assert_eq!(&rt; table.noted(257), 0);
+    assert_eq!(&rt; table.quadrants(256), [255, 0, 0, 1]);
+    assert_eq!(&rt; table.join_numbers([255, 0, 0, 1]).expect(&rt, "room"), 256);
+    assert_eq!(&rt;
+        table.join_numbers([256, 256, 257, 257]).expect(&rt, "room"),
+        258
+    );
+    assert_eq!(&rt; table.noted(258), 0);
+    table.note(258, 258);
+    table.note(256, 1);
+    assert_eq!(&rt; table.noted(256), 1);
+    assert_eq!(&rt; table.noted(258), 258);
+    assert_eq!(&rt; table.quadrants(258), [256, 256, 257, 257]);
+    table.forget_notes();
+    assert_eq!(&rt; table.noted(256), 0);
+    assert_eq!(&rt; table.noted(258), 0);
+    assert_eq!(&rt; table.quadrants(258), [256, 256, 257, 257]);
+}
+
+#[test]
+fn a_cleared_table_has_no_notes(rt: HostRuntime) {
+    let arena = Bump::new(rt.alloc());
+    let mut table = SquareTable::new(rt.alloc(), &arena, 2).expect(&rt, "memory");
+    assert_eq!(&rt; table.join_numbers([1, 0, 0, 1]).expect(&rt, "room"), 256);
+    table.note(256, 256);
+    table.clear();
+    assert_eq!(&rt; table.join_numbers([1, 0, 0, 1]).expect(&rt, "room"), 256);
+    assert_eq!(&rt; table.noted(256), 0);
+}
+
+// The largest number has 25 bits in a row, and no square has it.
+#[test]
+fn a_row_has_no_room_for_a_number_that_no_square_has(rt: HostRuntime) {
+    let arena = Bump::new(rt.alloc());
+    let mut table = SquareTable::new(rt.alloc(), &arena, 2).expect(&rt, "memory");
+    for number in [33_554_432, 4_294_967_295] {
+        assert!(&rt;
+            matches!(
+                &table.join_numbers([0, number, 0, 0]),
+                Err(TableFault::NoMemory)
+            )
+        );
+    }
+    assert_eq!(&rt; table.len(), 0);
+    assert_eq!(&rt;
+        table
+            .join_numbers([0, 33_554_431, 0, 0])
+            .expect(&rt, "room"),
+        256
+    );
+    assert_eq!(&rt; table.quadrants(256), [0, 33_554_431, 0, 0]);
+}
+
+#[test]
 fn faults_have_numbers_and_names(rt: HostRuntime) {
     assert_eq!(&rt; TableFault::NoRoom.number(), 71);
     assert_eq!(&rt; TableFault::NoRoom.name(), "NoRoom");

@@ -1,5 +1,5 @@
 -- A square with empty ones round it, join by join.
-use Rattle.std.proofs.Common.{◌≡◌, ℕ, suc, ◌+◌, ◌-◌, ◌≤◌, List, [], ◌∷◌, get_or, subst, sym, arith}
+use Rattle.std.proofs.Common.{◌∙◌, ◌≡◌, ℕ, suc, ◌+◌, ◌-◌, ◌≤◌, List, [], ◌∷◌, get_or, subst, sym, arith}
 use Rattle.std.specs.Prelude.{Contains}
 use Rattle.std.proofs.lemmas.List.Elements.{All-nil, All-cons}
 use Rattle.worlds.specs.World.{World}
@@ -49,6 +49,7 @@ IsPadding-begun {t} {t1} {square} {s} {k} {e} {n} {ks} some is held number grows
       cells = grind arith;
       adds = record {
         grows = grows.grows;
+        notes = grows.notes;
         among = λ all blank within are. grows.among all (λ j low below. blank j low (omega (arith, below, is))) (λ i lt. absurd (omega (arith, lt))) are;
       };
       empty = grind arith;
@@ -72,6 +73,7 @@ IsPadding-joined {t} {t1} {u} {v} {square} {k} {e} {j} {a} {b} {d} {f} {ks} {p} 
       cells = is.cells;
       adds = record {
         grows = Grows-then t u v is.adds.grows grows;
+        notes = adds.notes ∙ is.adds.notes;
         among = λ all blank within are.
             let listed = part (Contains all) (subst (HoldsWithin (Contains all)) is.cells within) in
             adds.among all (All-cons (Contains all) S [] listed (All-nil (Contains all))) (is.adds.among all blank within are);
@@ -133,6 +135,7 @@ pub AddsRound-padded : {t u v : Table} {first last : Square} {level : ℕ} → 1
     → AddsPadded u last v → AddsRound t first level v
 AddsRound-padded {t} {u} {v} {first} {last} {level} some low centred before adds = record {
   grows = Grows-then t u v before.grows adds.grows;
+  notes = adds.notes ∙ before.notes;
   among = λ w all at start are.
       let is = (padded-centred w (level_of last) (cells_of u last) some (centred w at)).square in
       adds.among all (λ j h below. start.empty j h (omega (arith, below, low))) (subst (HoldsWithin (Contains all)) (sym is) (start.squares (level_of last + 1) (omega arith) low))

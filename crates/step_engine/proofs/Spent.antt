@@ -47,6 +47,7 @@ module _ {w : World} {n k level : ℕ} (is : IsRoomLevel n w k) (e : level ≡ k
   pub AddsStart-widened : {t u v : Table} {square : Square} → GrowsFor w t u → IsCentred w (level_of square) (cells_of u square) → AddsRound u square level v → AddsStart w n t v
   AddsStart-widened {t} {u} {v} grows centred adds = record {
     grows = Grows-then t u v grows.grows adds.grows;
+    notes = adds.notes ∙ grows.notes;
     k = k;
     root = is;
     among = λ all start are. let loaded = grows.among (suc (suc k)) all (omega arith) (room-fits n k w is.room) start are in adds.among w all centred (grind arith) loaded;
@@ -63,6 +64,7 @@ module _ {w : World} {n k level : ℕ} (is : IsRoomLevel n w k) (e : level ≡ k
 pub AddsStart-loaded : {w : World} {n k : ℕ} {t u : Table} → IsRoomLevel n w k → GrowsFor w t u → AddsStart w n t u
 AddsStart-loaded {w} {n} {k} is grows = record {
   grows = grows.grows;
+  notes = grows.notes;
   k = k;
   root = is;
   among = λ all start. grows.among (suc (suc k)) all (omega arith) (room-fits n k w is.room) start;
@@ -90,7 +92,7 @@ later-world next quiet {w} {n} fits is later = (iterate n (step next) w, HasMarg
 
 -- a table that was full before a search has as many different squares as it may
 pub start-spent : {next : List ℕ → ℕ} {w : World} {n : ℕ} {t u : Table} → AddsStart w n t u → IsFull u → SpendsNew next w n t
-start-spent {u = u} adds full limit new = record {
+start-spent {u = u} adds full limit none most = record {
   k = adds.k;
   root = adds.root;
   made = λ all way. held_many all u.rows full.distinct (adds.among all way.start (grind arith)) (min limit 16777216) (grind (arith, adds.grows.limit, full.count));
@@ -129,7 +131,7 @@ module _ {w : World} {n : ℕ} {t u : Table} {root : Square} (adds : AddsStart w
 
   -- one that was filled by it
   pub search-spent : {next : List ℕ → ℕ} {v : Table} → GrowsOnWay next n u root v → IsFull v → SpendsNew next w n t
-  search-spent {v = v} grows full limit new = record {
+  search-spent {v = v} grows full limit none most = record {
     k = adds.k;
     root = adds.root;
     made = λ all way. held_many all v.rows full.distinct (searching grows all way (grind arith)) (min limit 16777216) (grind (arith, adds.grows.limit, grows.grows.limit, full.count));

@@ -22,15 +22,15 @@ IsPackedIn table packed = IsSquareOf table packed.plane packed.square
 pub record IsKeptEngine (next : List ℕ → ℕ) (most : ℕ) (table : Table) (memo : Memo)
     (packed : Option Packed) : Type 0 where
   pub limit : table.limit ≡ min most 16777216
-  pub right : IsRightMemo next table.rows memo
+  pub right : IsRightMemo next table memo
   pub latest : IfSome packed (IsPackedIn table)
 
 -- what may be kept before a pass may be kept after it
 pub record StaysKept (next : List ℕ → ℕ) (t u : Table) (memo : Memo) : Type 0 where
   pub limit : u.limit ≡ t.limit
-  pub right : IsRightMemo next u.rows memo
+  pub right : IsRightMemo next u memo
 
 -- if the table had no square, the way to the world n generations later has as many as it may hold
 abbrev pub SpendsNew : (List ℕ → ℕ) → World → ℕ → Table → Type 0
-SpendsNew next w n t = (limit : ℕ) → t ≡ record { rows = []; limit = min limit 16777216 } →
+SpendsNew next w n t = (limit : ℕ) → t.rows ≡ [] → t.limit ≡ min limit 16777216 →
     IsRoomSpent limit next w n

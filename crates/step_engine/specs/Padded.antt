@@ -30,9 +30,11 @@ pub record IsPadded (t : Table) (square : Square) (u : Table) (s : Square) : Typ
   pub cells : cells_of u s ≡ padded (level_of square - 1) (cells_of t square)
   pub limit : u.limit ≡ t.limit
 
--- the table has more rows, or none, of what a square with empty ones round it is made of
+-- the table has more rows, or none, of what a square with empty ones round it is made of, and the same
+-- notes
 pub record AddsPadded (t : Table) (square : Square) (u : Table) : Type 0 where
   pub grows : Grows t u
+  pub notes : u.notes ≡ t.notes
   pub among : (all : List squares.Square) → HasEmpty all (level_of square) →
       HoldsWithin (Contains all) (padded (level_of square - 1) (cells_of t square)) →
       AreAmong all t.rows → AreAmong all u.rows
@@ -45,9 +47,11 @@ pub record IsWidened (t : Table) (square : Square) (level : ℕ) (u : Table) (s 
   pub centred : (w : World) → IsCentred w (level_of square) (cells_of t square) →
       IsCentred w level (cells_of u s)
 
--- the table has more rows, or none, of squares that a world starts with up to the level
+-- the table has more rows, or none, of squares that a world starts with up to the level, and the same
+-- notes
 pub record AddsRound (t : Table) (square : Square) (level : ℕ) (u : Table) : Type 0 where
   pub grows : Grows t u
+  pub notes : u.notes ≡ t.notes
   pub among : (w : World) (all : List squares.Square) →
       IsCentred w (level_of square) (cells_of t square) → HasStart all w level →
       AreAmong all t.rows → AreAmong all u.rows
@@ -64,9 +68,11 @@ pub record IsRooted (w : World) (n : ℕ) (u : Table) (root : Square) : Type 0 w
   pub level : (k : ℕ) → IsRoomLevel n w k → level_of root ≡ suc (suc k)
   pub centred : IsCentred w (level_of root) (cells_of u root)
 
--- the table has more rows, or none, of squares that the world starts with up to that level
+-- the table has more rows, or none, of squares that the world starts with up to that level, and the
+-- same notes
 pub record AddsStart (w : World) (n : ℕ) (t u : Table) : Type 0 where
   pub grows : Grows t u
+  pub notes : u.notes ≡ t.notes
   pub k : ℕ
   pub root : IsRoomLevel n w k
   pub among : (all : List squares.Square) → HasStart all w (suc (suc k)) →

@@ -55,7 +55,7 @@ fn pass<'a, Q: Ask, S: Stop>(
     stop: &mut S,
 ) -> Result<Plane, EvolveFault>
     requires evolve { CanEvolve (Q.state_count rule.old) generations plane.now }
-    requires right { IsRightMemo (Q.meaning rule.old) table.old.rows memo.old }
+    requires right { IsRightMemo (Q.meaning rule.old) table.old memo.old }
     requires latest { IfSome latest.old (IsPackedIn table.old) }
     ensures plane { IfOk result (λ later.
         later ≡ iterate generations (step (Q.meaning rule.old)) plane.now) }

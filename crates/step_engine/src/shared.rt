@@ -1,8 +1,9 @@
 //! Many generations of a plane at once, by squares that are shared.
-ghost use Rattle.std.specs.Prelude.{◌≡◌, [], min, IfOk, Err};
+ghost use Rattle.std.specs.Prelude.{◌≡◌, min, IfOk, Err};
 ghost use Rattle.worlds.specs.Iterate.{iterate};
 ghost use Rattle.worlds.specs.Step.{step};
 ghost use Rattle.worlds.specs.Stop.{CountsStop};
+ghost use Rattle.square_table.specs.Squares.{no_squares};
 ghost use Rattle.hash_engine.specs.Found.{KeepsRule};
 ghost use Rattle.step_engine.specs.Evolved.{CanEvolve, IsEvolved, IsReport, IsRoomSpent, AsksOnceOf};
 
@@ -23,7 +24,7 @@ pub(crate) fn no_squares<'a>(
     arena: &'a Bump,
     limit: u32,
 ) -> Result<SquareTable<'a>, AllocError>
-    ensures { IfOk result (λ t. t ≡ record { rows = []; limit = min limit 16777216 }) }
+    ensures { IfOk result (λ t. t ≡ no_squares (min limit 16777216)) }
 {
     SquareTable::new(alloc, arena, limit.min(MOST_SQUARES))
 }

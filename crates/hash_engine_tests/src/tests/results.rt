@@ -66,6 +66,7 @@ fn expect_sought(
     let mut table = SquareTable::new(alloc, &arena, 100_000).expect(rt, "memory");
     let number = square_of(&mut table, 5, 0, 0, cells).expect(rt, "room");
     let later = square_of(&mut table, 4, 8, 8, wanted).expect(rt, "room");
+    table.forget_notes();
     assert!(rt; is_number(&table, 5, number));
     assert!(rt; is_below(&table, 5, number, 2));
     let root = table.square(5, number).expect(rt, "memory");

@@ -43,6 +43,13 @@ within-made P rows so (suc k) n is = (
 added : (t : Table) (kids : List ℕ) (i : ℕ) → i ≡ length t.rows → IsSquareOf (with_row t kids).rows kids (first_number + i)
 added t kids i last = grind (arith, length_push, last_row)
 
+-- the notes are the same where a row is added, or none
+pub notes_joined : {t u : Table} (kids : List ℕ) → GrowsBy kids t u → u.notes ≡ t.notes
+notes_joined kids step = elim step [
+  | inl same ↦ ap (λ (v : Table). v.notes) same
+  | inr more ↦ ap (λ (v : Table). v.notes) more
+]
+
 -- one row more, or none
 pub AreAmong-joined : (all : List Square) (t u : Table) (kids : List ℕ) → Grows t u → GrowsBy kids t u → ((n : ℕ) → IsSquareOf u.rows kids n → IsAmong all u.rows n) → AreAmong all t.rows → AreAmong all u.rows
 AreAmong-joined all t u kids grows step made are = elim step [
@@ -76,6 +83,7 @@ IsAmong-for all rows k n s is listed = record { level = k; numbered = is.numbere
 pub Adds-joined : (t u : Table) (kids : List ℕ) (k : ℕ) (s : Square) → Grows t u → GrowsBy kids t u → ((n : ℕ) → IsSquareOf u.rows kids n → IsFor u.rows k n s) → Adds (s ∷ []) t u
 Adds-joined t u kids k s grows step known = record {
   grows = grows;
+  notes = notes_joined kids step;
   among = λ all made are. AreAmong-joined all t u kids grows step (λ n is. IsAmong-for all u.rows k n s (known n is) (All-head (Contains all) s [] made)) are;
 }
 

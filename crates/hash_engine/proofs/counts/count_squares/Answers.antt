@@ -3,7 +3,7 @@ use Rattle.square_table.specs.Squares.{first_number}
 use Rattle.hash_engine.specs.Asked.{is_four, is_put, picked, places_of_four, places_put}
 use Rattle.hash_engine.proofs.Picked.{picked-next}
 use Rattle.hash_engine.proofs.counts.count_squares.Goals as goal
-use Rattle.hash_engine.proofs.counts.count_squares.Goals.{then-is_four+then-has_full, then-is_four+else-has_full, else-is_four}
+use Rattle.hash_engine.proofs.counts.count_squares.Goals.{then-is_four+then-noted-gt0, then-is_four+else-noted-gt0, else-is_four}
 
 pub loop-place-init : goal.loop-place-init
 unfolding picked
@@ -13,7 +13,7 @@ pub loop-place-preserved : goal.loop-place-preserved
 unfolding is_put
 loop-place-preserved c =
     let four = λ (j : ℕ). is_four c.args.table.now.rows (first_number + j) in
-    let put = is_put c.args.table.now.rows c.args.memo.now in
+    let put = is_put c.args.table.now.rows c.args.table.now.notes in
     let i = c.loop-place.place in
     grind (arith, picked-next four i, picked-next put i, c.if-is_four.branch)
 

@@ -20,7 +20,7 @@ returns-then-ahead-eq0-clause-found g c = IfOk-weaker c.middle_of.result _ _
 pub returns-in-Some-clause-found : goal.returns-in-Some-clause-found
 returns-in-Some-clause-found g c =
     let some : 0 < c.args.ahead = omega (arith, c.if-ahead-eq0.false) in
-    let known = c.in-Some.ensures (g.Q.Ask.meaning c.args.rule.now) c.args.table.now.rows c.requires.right in
+    let known = c.in-Some.ensures (g.Q.Ask.meaning c.args.rule.now) c.args.table.now c.requires.right in
     subst (StandsFor c.args.table.now.rows 1 c.in-Some.known) (result_some _ _ some) known.result
 
 pub put-requires : goal.put-requires

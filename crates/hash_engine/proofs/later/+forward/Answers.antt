@@ -1,5 +1,6 @@
 use Rattle.std.proofs.Common.{◌<◌, ◌∙◌, sym, arith, rules}
-use Rattle.hash_engine.proofs.Standing.{above}
+use Rattle.square_table.proofs.Shared.Growth.{IsNumber-grows}
+use Rattle.hash_engine.proofs.Standing.{above, within, StandsFor-itself}
 use Rattle.hash_engine.proofs.Finding.{Keeps-middle, Keeps-noted, IsFound-none, found_still, asks_still, Asks-grown}
 use Rattle.hash_engine.proofs.Making.{MakesFor-none, MakesFor-noted}
 use Rattle.hash_engine.proofs.Computing.{AreDone-all, FirstAreMade-all, turn_made, middles_can, middles_found, middles_keeps, turn_can, turn_keeps, turn_asks, turn_done, nine_keeps, nine_can, first_keeps, fours_keeps, fours_can, last_keeps, joined_keeps, joined_all}
@@ -91,7 +92,7 @@ pub compute-returns : goal.compute-returns
 compute-returns g t c =
     let all = joined_all c.requires c.min-first.ensures c.full.ensures c.in_ok-nine.ensures.adds c.in_ok-nine.ensures.squares c.in_ok-all_forward.ensures.keeps c.in_ok-all_forward.ensures.found
     c.in_ok-fours.ensures.adds c.in_ok-fours.ensures.squares c.in_ok-all_forward-2.ensures.keeps c.in_ok-all_forward-2.ensures.found
-    c.in_ok-join_numbers.ensures.grows c.in_ok-all_forward.ensures.asks c.in_ok-all_forward-2.ensures.asks c.in_ok-join_numbers.ensures.one c.in_ok-join_numbers.ensures.square
+    c.in_ok-join_numbers.ensures.grows c.in_ok-join_numbers.ensures.one c.in_ok-all_forward.ensures.asks c.in_ok-all_forward-2.ensures.asks c.in_ok-join_numbers.ensures.square
     c.in_ok-all_forward.ensures.made c.in_ok-all_forward-2.ensures.made in
     record { keeps = all.0; end = search rules; found = all.1; asks = all.2; made = all.3 }
 
@@ -102,32 +103,39 @@ forward-returns-in_err-middle-clause-keeps g t c =
 pub forward-returns-then-ahead-eq0 : goal.forward-returns-then-ahead-eq0
 forward-returns-then-ahead-eq0 g t c =
     let made = c.in_ok-middle.ensures in
+    let same = (made.adds c.args.k _ (StandsFor-itself c.args.table.now.rows _ c.args.number c.requires.ready.numbered)).notes in
     record {
       keeps = Keeps-middle c.args.k c.args.number c.if-ahead-eq0.true c.requires.right c.requires.ready.numbered made.adds;
       end = search rules;
       found = IsFound-none c.if-ahead-eq0.true made.grows c.requires.ready.numbered made.square;
-      asks = λ is. Asks-grown made.grows c.requires.right is.has;
-      made = MakesFor-none c.args.k c.args.number c.if-ahead-eq0.true made.grows c.requires.right c.requires.ready.numbered made.square;
+      asks = λ is. Asks-grown made.grows same c.requires.right is.has;
+      made = MakesFor-none c.args.k c.args.number c.if-ahead-eq0.true made.grows same c.requires.right c.requires.ready.numbered made.square;
     }
+
+pub forward-remember-requires-clause-there : goal.forward-remember-requires-clause-there
+forward-remember-requires-clause-there g t c =
+    let made = c.in_ok-made.ensures in
+    within c.compute.new.table.rows _ c.args.number (IsNumber-grows c.args.table.now c.compute.new.table _ c.args.number made.keeps.grows c.requires.ready.numbered)
 
 pub forward-returns-in_err-remember-clause-keeps : goal.forward-returns-in_err-remember-clause-keeps
 forward-returns-in_err-remember-clause-keeps g t c =
     let made = c.in_ok-made.ensures in
-    Keeps-noted c.remember.new.self made.keeps c.requires.ready.numbered made.found c.remember.ensures.right
+    Keeps-noted c.remember.new.self made.keeps c.requires.ready.numbered made.found c.remember.ensures.rows c.remember.ensures.right
 
 pub forward-returns : goal.forward-returns
 forward-returns g t c =
     let made = c.in_ok-made.ensures in
     let grows = made.keeps.grows in
     let numbered = c.requires.ready.numbered in
+    let rows = c.remember.ensures.rows in
     let noted = c.in_ok-remember.ensures.noted in
     let some : 0 < c.in_ok-made.made =
     omega (arith, above c.compute.new.table.rows c.args.k c.in_ok-made.made made.found.square.numbered) in
     let high : 0 < c.args.k = omega (arith, c.if-k-eq0.false) in
     record {
-      keeps = Keeps-noted c.remember.new.self made.keeps numbered made.found c.remember.ensures.right;
+      keeps = Keeps-noted c.remember.new.self made.keeps numbered made.found rows c.remember.ensures.right;
       end = search rules;
-      found = found_still high grows numbered noted some made.found;
-      asks = asks_still high grows numbered noted some made.found made.asks;
-      made = MakesFor-noted (g.Q.Ask.meaning c.args.rule.now) c.args.number grows numbered noted made.made;
+      found = found_still high grows numbered rows noted some made.found;
+      asks = asks_still high grows numbered rows noted some made.found made.asks;
+      made = MakesFor-noted (g.Q.Ask.meaning c.args.rule.now) c.args.number grows numbered rows noted made.made;
     }

@@ -17,6 +17,6 @@ invariant-all_forward-loop-number g l = record {
   keeps : KeepsForAll g.Q.Ask.meaning g.Q.Ask.state_count l.fn.rule l.rule l.k l.ahead l.fn.numbers l.fn.table l.table l.memo;
   went_on : g.S.Stop.yes_count l.stop ≡ g.S.Stop.yes_count l.fn.stop;
   made : FirstAreMade (g.Q.Ask.meaning l.fn.rule) l.k l.ahead l.number-index l.fn.numbers l.fn.table l.fn.memo l.table l.memo;
-  done : AreDone (g.Q.Ask.meaning l.fn.rule) l.k l.ahead l.number-index l.fn.numbers l.numbers l.fn.table l.fn.memo l.table l.memo;
+  done : AreDone (g.Q.Ask.meaning l.fn.rule) l.k l.ahead l.number-index l.fn.numbers l.numbers l.fn.table l.fn.memo l.table;
   asks : AsksForAll g.Q.Ask.meaning g.Q.Ask.asks l.k l.ahead l.fn.numbers l.fn.rule l.fn.table l.fn.memo l.rule l.table l.memo;
 }

@@ -7,7 +7,7 @@ use Rattle.step_engine.proofs.kept.pass.Goals as goal
 pub search-requires : goal.search-requires
 search-requires g c = record {
   asked = root-asked c.rooted.ensures.adds c.in_ok-root.ensures.root c.requires.evolve.below;
-  right = IsRight-grows (g.Q.Ask.meaning c.args.rule.now) c.args.table.now c.rooted.new.table c.args.memo.now c.rooted.ensures.adds.grows c.requires.right;
+  right = IsRight-grows (g.Q.Ask.meaning c.args.rule.now) c.args.table.now c.rooted.new.table c.args.memo.now c.rooted.ensures.adds.grows c.rooted.ensures.adds.notes c.requires.right;
 }
 
 pub pack-requires-clause-world : goal.pack-requires-clause-world

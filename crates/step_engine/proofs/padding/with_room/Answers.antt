@@ -1,4 +1,4 @@
-use Rattle.std.proofs.Common.{◌≡◌, ◌+◌, ◌≤◌, subst, arith}
+use Rattle.std.proofs.Common.{◌≡◌, ◌+◌, ◌≤◌, refl, subst, arith}
 use Rattle.square_table.specs.Squares.{level_of, cells_of}
 use Rattle.square_table.specs.Centred.{IsCentred}
 use Rattle.square_table.proofs.Shared.Growth.{Grows-same}
@@ -10,7 +10,7 @@ loop-table-init c = record {
   held = c.requires.held;
   level = (c.requires.level.0, c.requires.level.1);
   centred = λ w at. at;
-  adds = record { grows = Grows-same c.args.table.now; among = λ w all at start are. are };
+  adds = record { grows = Grows-same c.args.table.now; notes = refl; among = λ w all at start are. are };
 }
 
 pub returns-in_err-square-clause-adds : goal.returns-in_err-square-clause-adds

@@ -1,4 +1,5 @@
-use Rattle.std.proofs.Common.{◌≤◌, arith, rules}
+use Rattle.std.proofs.Common.{◌≤◌, ap, arith, rules}
+use Rattle.square_table.specs.Squares.{Table}
 use Rattle.square_table.proofs.Shared.Centring.{one_world}
 use Rattle.step_engine.proofs.Spent.{root-for, root-asked, root-later, later-world, searching, searched, all-put, start-spent, search-spent}
 use Rattle.step_engine.proofs.shared.evolve_by.Goals as goal
@@ -16,10 +17,11 @@ returns-clause-asks g c =
     c.in_ok-found.ensures.once c.args.plane.now _ _ root.room.few root.centred.square
 
 pub returns-in_err-root-clause-no_room : goal.returns-in_err-root-clause-no_room
-returns-in_err-root-clause-no_room g c = λ h. start-spent c.rooted.ensures.adds (search rules) c.args.limit c.in_ok-table.ensures
+returns-in_err-root-clause-no_room g c = λ h. start-spent c.rooted.ensures.adds (search rules) c.args.limit (ap (λ (t : Table). t.rows) c.in_ok-table.ensures) (ap (λ (t : Table). t.limit) c.in_ok-table.ensures)
 
 pub returns-in_err-found-clause-no_room : goal.returns-in_err-found-clause-no_room
-returns-in_err-found-clause-no_room g c = λ h. search-spent c.rooted.ensures.adds c.in_ok-root.ensures.root c.result.ensures.grows (search rules) c.args.limit c.in_ok-table.ensures
+returns-in_err-found-clause-no_room g c = λ h. search-spent c.rooted.ensures.adds c.in_ok-root.ensures.root c.result.ensures.grows (search rules) c.args.limit
+    (ap (λ (t : Table). t.rows) c.in_ok-table.ensures) (ap (λ (t : Table). t.limit) c.in_ok-table.ensures)
 
 pub returns-clause-evolved : goal.returns-clause-evolved
 returns-clause-evolved g c =

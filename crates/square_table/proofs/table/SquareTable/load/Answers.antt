@@ -1,4 +1,4 @@
-use Rattle.std.proofs.Common.{◌≡◌, ℕ, ◌≤◌, List, [], ◌∷◌, ap, sym, ◌∙◌, subst, arith}
+use Rattle.std.proofs.Common.{◌≡◌, ℕ, ◌≤◌, List, [], ◌∷◌, ap, refl, sym, ◌∙◌, subst, arith}
 use Rattle.std.specs.Prelude.{Contains}
 use Rattle.worlds.specs.World.{World}
 use Rattle.worlds.specs.Square as squares
@@ -31,6 +31,7 @@ first_empty all within = within.0
 loaded : (w : World) (rows : List SquareRow) (t u : Table) → AreSquaresOf w rows → GrowsFrom (empty_below rows) rows t u → GrowsFor w t u
 loaded w rows t u is grows = record {
   grows = grows.grows;
+  notes = grows.notes;
   among = λ k all some fits start are.
       let level : root_level rows ≤ k = is.canonical.least.least k some (subst (Fits k) (sym is.world) fits) in
       let low = (rooted rows is.canonical.valid).low in
@@ -50,7 +51,7 @@ loaded_seen : (w : World) (rows seen : List SquareRow) (t u : Table) → AreSqua
 loaded_seen w rows seen t u is same grows = loaded w seen t u (subst (AreSquaresOf w) (sym same) is) grows
 
 pub returns-in_err-squares-clause-grows : goal.returns-in_err-squares-clause-grows
-returns-in_err-squares-clause-grows c = record { grows = Grows-same c.args.self.now; among = λ k all some fits start are. are }
+returns-in_err-squares-clause-grows c = record { grows = Grows-same c.args.self.now; notes = refl; among = λ k all some fits start are. are }
 
 pub returns-clause-grows : goal.returns-clause-grows
 returns-clause-grows c = loaded_seen c.args.plane.now c.in_ok-squares.squares.items c.deref.result.now c.args.self.now c.load_root.new.self c.in_ok-squares.ensures.squares c.deref.ensures.value c.load_root.ensures.grows

@@ -1,0 +1,38 @@
+use Rattle.std.proofs.Common.{◌≡◌, sym, subst, arith, inr}
+use Rattle.square_table.specs.Squares.{Table, Grows, with_row}
+use Rattle.square_table.proofs.Noted.{seen, seen-push}
+use Rattle.square_table.proofs.Shared.Growth.{Grows-more}
+use Rattle.square_table.proofs.table.SquareTable.join_numbers.Goals as goal
+
+pub returns-in_ok-append-in-Err-clause-grows : goal.returns-in_ok-append-in-Err-clause-grows
+returns-in_ok-append-in-Err-clause-grows c =
+    let t = c.args.self.now in
+    let row = c.in_ok-row-in-Err.row in
+    let more : seen c.append.new.rows.items c.self.inside.limit ≡ with_row t c.args.kids = grind (
+      arith,
+      seen-push t c.self.inside.rows.items row c.self.inside.limit c.args.kids,
+      c.self.view_is,
+      c.make_ready.ensures,
+      c.if-count-self.false,
+      c.len-count.ensures,
+      c.in_ok-row-in-Err.ensures,
+      c.new.ensures,
+      c.in_ok-append-in-Err.ensures,
+    ) in
+    subst (Grows t) (sym more) (Grows-more t c.args.kids)
+
+pub returns-in_ok-append-in-Err-clause-one : goal.returns-in_ok-append-in-Err-clause-one
+returns-in_ok-append-in-Err-clause-one c =
+    let t = c.args.self.now in
+    let row = c.in_ok-row-in-Err.row in
+    inr (grind (
+      arith,
+      seen-push t c.self.inside.rows.items row c.self.inside.limit c.args.kids,
+      c.self.view_is,
+      c.make_ready.ensures,
+      c.if-count-self.false,
+      c.len-count.ensures,
+      c.in_ok-row-in-Err.ensures,
+      c.new.ensures,
+      c.in_ok-append-in-Err.ensures,
+    ))
