@@ -9,3 +9,4 @@ pub mod Counts
 pub mod WorldRows
 pub mod Laws
 pub mod Within
+pub mod SharedRows

@@ -30,6 +30,7 @@ mod part;
 mod plane;
 mod raise;
 mod row;
+mod shared_rows;
 mod span;
 mod valid;
 mod walk;

@@ -17,6 +17,7 @@ use crate::live::live_cells;
 use crate::measures::{Measures, measured, no_measures};
 use crate::part::Spot;
 use crate::row::SquareRow;
+use crate::shared_rows::SharedRows;
 use crate::span::{Span, spans_of};
 use crate::walk::walked;
 use crate::within::live_within;
@@ -32,7 +33,7 @@ use worlds::{Bounds, Cell, CellSet};
 /// since 2^32 rows take over 100 GB while they are made canonical.
 #[derive(Drop)]
 pub struct Plane {
-    rows: Vec<SquareRow>,
+    rows: SharedRows,
     measures: Measures,
     alloc: Global,
 }
@@ -47,9 +48,9 @@ impl Model for Plane {
 
     ghost coded = { coded_world };
 
-    ghost view = { λ p. world_of_rows p.rows.items };
+    ghost view = { λ p. world_of_rows p.rows };
 
-    ghost invariant = { λ p. AreKept p.rows.items × (length p.rows.items < 2 ^ 32) × AreMeasuresOf (world_of_rows p.rows.items) p.measures };
+    ghost invariant = { λ p. AreKept p.rows × (length p.rows < 2 ^ 32) × AreMeasuresOf (world_of_rows p.rows) p.measures };
 }
 
 impl Plane {
@@ -58,7 +59,7 @@ impl Plane {
         ensures { result ≡ blank }
     {
         Plane {
-            rows: Vec::new(alloc),
+            rows: SharedRows::none(),
             measures: no_measures(),
             alloc,
         }
@@ -88,7 +89,7 @@ impl Plane {
         rows.shrink_to_fit();
         let measures = measured(alloc, &rows)?;
         Ok(Plane {
-            rows,
+            rows: SharedRows::of(alloc, rows)?,
             measures,
             alloc,
         })
@@ -99,15 +100,15 @@ impl Plane {
         ensures state { result ≡ cell self.now x y }
         ensures outside { (IsInside 0 x y → ⊥) → result ≡ 0 }
     {
-        state_at(&self.rows, Spot { x, y })
+        state_at(self.rows.as_slice(), Spot { x, y })
     }
 
-    /// An equal plane.
+    /// An equal plane, which shares the rows of this one.
     pub fn copy(&self) -> Result<Plane, AllocError>
         ensures { IfOk result (λ plane. plane ≡ self.now) }
     {
         Ok(Plane {
-            rows: self.rows.to_vec(self.alloc)?,
+            rows: self.rows.share()?,
             measures: self.measures,
             alloc: self.alloc,
         })
@@ -118,7 +119,7 @@ impl Plane {
         requires { All CanBeLaid cells.now }
         ensures { IfOk result (λ plane. plane ≡ lay cells.now self.now) }
     {
-        let mut rows = self.rows.to_vec(self.alloc)?;
+        let mut rows = self.rows.as_slice().to_vec(self.alloc)?;
         lay_rows(self.alloc, &mut rows, &spans_of(self.alloc, cells)?)?;
         Plane::from_squares(self.alloc, &rows)
     }
@@ -143,7 +144,7 @@ impl Plane {
         ensures squares { IfOk result (λ rows. AreSquaresOf self.now rows.items) }
         ensures few { IfOk result (λ rows. length rows.items < 2 ^ 32) }
     {
-        written(self.alloc, &self.rows)
+        written(self.alloc, self.rows.as_slice())
     }
 
     /// How many cells are live.
@@ -163,7 +164,7 @@ impl Plane {
         if self.population() > u128::from(limit) {
             return Ok(None);
         }
-        Ok(Some(live_cells(self.alloc, &self.rows)?))
+        Ok(Some(live_cells(self.alloc, self.rows.as_slice())?))
     }
 
     /// The live cells that lie in the box, its edges included, each once. Squares that are empty or
@@ -171,7 +172,7 @@ impl Plane {
     pub fn cells_within(&self, within: &Bounds) -> Result<Vec<Cell>, AllocError>
         ensures { IfOk result (λ cells. AreLiveWithin within.now self.now cells.items) }
     {
-        live_within(self.alloc, &self.rows, within)
+        live_within(self.alloc, self.rows.as_slice(), within)
     }
 
     /// The greatest state, 0 where no cell is live.
@@ -195,13 +196,13 @@ impl Plane {
         ensures { IfOk result (λ counts.
             (s : ℕ) → s < 256 → slice_index counts s ≡ count_of self.now s) }
     {
-        counts(self.alloc, &self.rows)
+        counts(self.alloc, self.rows.as_slice())
     }
 
     /// Whether the cells are the same.
     pub fn equals(&self, other: &Plane) -> bool
         ensures { IsTrue result ↔ (self.now ≡ other.now) }
     {
-        self.rows == other.rows
+        self.rows.as_slice() == other.rows.as_slice()
     }
 }

@@ -11,4 +11,4 @@ returns-clause-none c =
     none-blank c.args.self.now found (subst (λ w. AreBoundsOf w found) c.self.view_is c.self.invariant.2.bounds)
 
 pub returns-clause-in_range : goal.returns-clause-in_range
-returns-clause-in_range c = subst (HasMargin 0) c.self.view_is (margin c.self.inside.rows.items c.self.invariant.0.valid)
+returns-clause-in_range c = subst (HasMargin 0) c.self.view_is (margin c.self.inside.rows c.self.invariant.0.valid)

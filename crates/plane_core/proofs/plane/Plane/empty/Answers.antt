@@ -7,10 +7,10 @@ use Rattle.plane_core.proofs.plane.Plane.empty.Goals as goal
 
 pub invariant_of-result : goal.invariant_of-result
 invariant_of-result c = (
-  subst AreKept (sym c.new.ensures.items) kept-none,
-  omega (arith, ap length c.new.ensures.items),
-  subst (AreMeasuresOf (world_of_rows c.new.result.items)) (sym c.no_measures.ensures) (none_measured c.new.result.items (ap length c.new.ensures.items)),
+  subst AreKept (sym c.none.ensures) kept-none,
+  omega (arith, ap length c.none.ensures),
+  subst (AreMeasuresOf (world_of_rows c.none.result)) (sym c.no_measures.ensures) (none_measured c.none.result (ap length c.none.ensures)),
 )
 
 pub returns : goal.returns
-returns c = ap world_of_rows c.new.ensures.items ∙ world-none
+returns c = ap world_of_rows c.none.ensures ∙ world-none

@@ -13,4 +13,4 @@ few-written (row ∷ rows) few = few
 pub returns-clause-squares : goal.returns-clause-squares
 returns-clause-squares c =
     IfOk-weaker c.written.result _ _ (λ found is.
-    subst (AreSquaresOf c.args.self.now) (sym (is ∙ ap written c.deref.ensures.value)) (squares-written c.self.inside.rows.items c.args.self.now c.self.invariant.0 c.self.view_is)) c.written.ensures
+    subst (AreSquaresOf c.args.self.now) (sym (is ∙ ap written c.as_slice.ensures)) (squares-written c.self.inside.rows c.args.self.now c.self.invariant.0 c.self.view_is)) c.written.ensures
