@@ -1,5 +1,5 @@
 //! Squares of a table as planes.
-ghost use Rattle.std.specs.Prelude.{◌≡◌, ◌⊎◌, ◌-◌, ◌<◌, ◌≤◌, ◌^◌, [], true, false, length, IfOk, OnOk};
+ghost use Rattle.std.specs.Prelude.{◌≡◌, ◌⊎◌, ◌-◌, ◌<◌, ◌≤◌, ◌^◌, [], true, false, length, None, IfOk, OnOk};
 ghost use Rattle.std.specs.List.{list_any};
 ghost use Rattle.worlds.specs.World.{World};
 ghost use Rattle.worlds.specs.Square.{empty_square};
@@ -8,6 +8,7 @@ ghost use Rattle.plane_core.specs.Rows.{number_row, same_row, completed};
 ghost use Rattle.plane_core.specs.Walks.{Walks};
 ghost use Rattle.square_table.specs.Squares.{IsHeld, IsNumber, AreNumbers, square_in, level_of, cells_of};
 ghost use Rattle.square_table.specs.Centred.{IsCentred};
+ghost use Rattle.square_table.specs.Renumbering.{known_of};
 ghost use Rattle.square_table.specs.Packing.{IsPacking, Packs, WalksFour, IsPadded, SharesSquare, IsAlike, square_by};
 
 use crate::renumbering::Renumbering;
@@ -150,6 +151,7 @@ impl<'a> SquareTable<'a> {
 
     // Packs the squares of a level that four numbers stand for, and gives their numbers among the rows.
     #[cycle(pack)]
+    #[inline(always)]
     fn pack_kids(
         &self,
         packed: &mut Packed,
@@ -170,10 +172,11 @@ impl<'a> SquareTable<'a> {
         Ok([nw, ne, sw, se])
     }
 
-    // Packs a square, and gives its number among the rows. One that was seen is not packed again; of
-    // one that wasn't the row is a new one, since the table's squares are distinct.
+    // The number of a square among the rows, packed or not. Most are, so that the look-up stands where
+    // four are asked for, and what it leads to doesn't.
     #[tactic(auto, unfolding(crate::specs::Squares::IsNumber))]
     #[cycle(pack)]
+    #[inline(always)]
     fn pack_square(&self, packed: &mut Packed, level: u8, number: u32) -> Result<u32, AllocError>
         requires level { level ≤ 61 }
         requires number { IsNumber self.now.rows level number }
@@ -188,6 +191,23 @@ impl<'a> SquareTable<'a> {
         if let Some(known) = packed.numbers.get(number) {
             return Ok(known);
         }
+        self.pack_new(packed, level, number)
+    }
+
+    // Packs a square that wasn't seen, and gives its number among the rows. Its row is a new one, since
+    // the table's squares are distinct.
+    #[tactic(auto, unfolding(crate::specs::Squares::IsNumber))]
+    #[cycle(pack)]
+    #[inline(never)]
+    fn pack_new(&self, packed: &mut Packed, level: u8, number: u32) -> Result<u32, AllocError>
+        requires level { (1 ≤ level) × (level ≤ 61) }
+        requires number { IsNumber self.now.rows level number }
+        requires packed { IsPacking self.now.rows packed.old }
+        requires new { known_of packed.old.numbers number ≡ None }
+        ensures walks { IfOk result (Walks level (square_in self.now.rows level number)
+            packed.old.squares.items packed.new.squares.items) }
+        ensures packs { OnOk result (Packs self.now.rows level packed.old packed.new) }
+    {
         let kids = self.pack_kids(packed, level - 1, self.quadrants(number))?;
         let known = complete(&mut packed.squares, SquareRow { level, kids })?;
         packed.numbers.insert(number, known)?;

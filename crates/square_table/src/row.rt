@@ -1,5 +1,5 @@
 //! The rows of a table, each of 16 bytes.
-ghost use Rattle.std.specs.Prelude.{◌≡◌, ◌<◌, length, map, slice_set, replicate, IfSome};
+ghost use Rattle.std.specs.Prelude.{◌≡◌, ◌<◌, length, map, slice_set, replicate, All, IfNone, IfSome};
 ghost use Rattle.square_table.specs.Rows.{number_range, note_range, number_in, part_in, kids_in, note_in, kids_of};
 
 // The numbers of squares are below this, as they take the lower 25 bits of a word.
@@ -31,7 +31,8 @@ impl Row {
     /// A row of these quadrants, of which nothing is noted. None where a number is too large for one.
     pub fn new(kids: [u32; 4]) -> Option<Row>
         ensures kids { IfSome result (λ row. kids_in row ≡ kids) }
-        ensures none { IfSome result (λ row. note_in row ≡ 0) }
+        ensures note { IfSome result (λ row. note_in row ≡ 0) }
+        ensures none { IfNone result (All (λ n. n < number_range) kids → ⊥) }
     {
         let [nw, ne, sw, se] = kids;
         if nw >= NUMBERS || ne >= NUMBERS || sw >= NUMBERS || se >= NUMBERS {

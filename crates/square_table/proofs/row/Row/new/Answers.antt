@@ -2,6 +2,6 @@ use Rattle.std.proofs.Common.{arith}
 use Rattle.square_table.specs.Rows.{note_of}
 use Rattle.square_table.proofs.row.Row.new.Goals as goal
 
-pub returns-clause-none : goal.returns-clause-none
+pub returns-clause-note : goal.returns-clause-note
 unfolding note_of
-returns-clause-none c = omega (arith, c.if-nw-ge-NUMBERS.false, c.if-ne-ge-NUMBERS.false, c.if-sw-ge-NUMBERS.false, c.if-se-ge-NUMBERS.false)
+returns-clause-note c = omega (arith, c.if-nw-ge-NUMBERS.false, c.if-ne-ge-NUMBERS.false, c.if-sw-ge-NUMBERS.false, c.if-se-ge-NUMBERS.false)

@@ -1,25 +1,8 @@
-use Rattle.std.proofs.Common.{◌≡◌, sym, subst, arith, inr}
-use Rattle.square_table.specs.Squares.{Table, Grows, with_row}
-use Rattle.square_table.proofs.Noted.{seen, seen-push}
-use Rattle.square_table.proofs.Shared.Growth.{Grows-more}
+use Rattle.std.proofs.Common.{◌≡◌, sym, subst, arith, inl, inr}
+use Rattle.square_table.specs.Squares.{Grows}
+use Rattle.square_table.proofs.Noted.{seen-push}
+use Rattle.square_table.proofs.Shared.Growth.{Grows-more, Grows-same}
 use Rattle.square_table.proofs.table.SquareTable.join_numbers.Goals as goal
-
-pub returns-in_ok-append-in-Err-clause-grows : goal.returns-in_ok-append-in-Err-clause-grows
-returns-in_ok-append-in-Err-clause-grows c =
-    let t = c.args.self.now in
-    let row = c.in_ok-row-in-Err.row in
-    let more : seen c.append.new.rows.items c.self.inside.limit ≡ with_row t c.args.kids = grind (
-      arith,
-      seen-push t c.self.inside.rows.items row c.self.inside.limit c.args.kids,
-      c.self.view_is,
-      c.make_ready.ensures,
-      c.if-count-self.false,
-      c.len-count.ensures,
-      c.in_ok-row-in-Err.ensures,
-      c.new.ensures,
-      c.in_ok-append-in-Err.ensures,
-    ) in
-    subst (Grows t) (sym more) (Grows-more t c.args.kids)
 
 pub returns-in_ok-append-in-Err-clause-one : goal.returns-in_ok-append-in-Err-clause-one
 returns-in_ok-append-in-Err-clause-one c =
@@ -36,3 +19,11 @@ returns-in_ok-append-in-Err-clause-one c =
       c.new.ensures,
       c.in_ok-append-in-Err.ensures,
     ))
+
+pub returns-in_ok-append-in-Err-clause-grows : goal.returns-in_ok-append-in-Err-clause-grows
+returns-in_ok-append-in-Err-clause-grows c =
+    let t = c.args.self.now in
+    elim (returns-in_ok-append-in-Err-clause-one c) [
+      | inl same ↦ subst (Grows t) (sym same) (Grows-same t)
+      | inr more ↦ subst (Grows t) (sym more) (Grows-more t c.args.kids)
+    ]
