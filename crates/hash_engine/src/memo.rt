@@ -173,8 +173,7 @@ impl Memo {
         number: u32,
     ) -> Option<u32>
         requires k { k ≤ 61 }
-        requires above { first_number ≤ number }
-        requires there { number < first_number + length table.now.rows }
+        requires number { (first_number ≤ number) × (number < first_number + length table.now.rows) }
         ensures some { IfSome result (RecallsResult table.now self.now k generations number) }
         ensures put { IfSome result (λ _. RecallsPut table.now self.now k generations number) }
         ensures made { IfSome result (λ _. RecallsMade table.now self.now k generations number) }
@@ -200,8 +199,7 @@ impl Memo {
         found: u32,
     ) -> Result<(), AllocError>
         requires k { k ≤ 61 }
-        requires above { first_number ≤ number }
-        requires there { number < first_number + length table.old.rows }
+        requires number { (first_number ≤ number) × (number < first_number + length table.old.rows) }
         requires found { found < first_number + length table.old.rows }
         ensures rows { KeepsRows table.old table.new }
         ensures right { StaysRight k generations number found

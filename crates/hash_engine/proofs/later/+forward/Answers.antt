@@ -112,10 +112,11 @@ forward-returns-then-ahead-eq0 g t c =
       made = MakesFor-none c.args.k c.args.number c.if-ahead-eq0.true made.grows same c.requires.right c.requires.ready.numbered made.square;
     }
 
-pub forward-remember-requires-clause-there : goal.forward-remember-requires-clause-there
-forward-remember-requires-clause-there g t c =
-    let made = c.in_ok-made.ensures in
-    within c.compute.new.table.rows _ c.args.number (IsNumber-grows c.args.table.now c.compute.new.table _ c.args.number made.keeps.grows c.requires.ready.numbered)
+pub forward-remember-requires-clause-number : goal.forward-remember-requires-clause-number
+forward-remember-requires-clause-number g t c =
+    let rows = c.compute.new.table.rows in
+    let numbered = IsNumber-grows c.args.table.now c.compute.new.table _ c.args.number c.in_ok-made.ensures.keeps.grows c.requires.ready.numbered in
+    (above rows _ c.args.number numbered, within rows _ c.args.number numbered)
 
 pub forward-returns-in_err-remember-clause-keeps : goal.forward-returns-in_err-remember-clause-keeps
 forward-returns-in_err-remember-clause-keeps g t c =

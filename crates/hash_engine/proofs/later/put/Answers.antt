@@ -27,9 +27,11 @@ asked n {next} {new} {c} {d} {ahead} {t} {u} {memo} some rule adds right =
 pub returns-in_err-made-clause-keeps : goal.returns-in_err-made-clause-keeps
 returns-in_err-made-clause-keeps g c = search (rules, asked)
 
-pub remember-requires-clause-there : goal.remember-requires-clause-there
-remember-requires-clause-there g c =
-    within c.later.new.table.rows 1 c.args.number (IsNumber-grows c.args.table.now c.later.new.table 2 c.args.number c.in_ok-made.ensures.adds.grows c.requires.ready.numbered)
+pub remember-requires-clause-number : goal.remember-requires-clause-number
+remember-requires-clause-number g c =
+    let rows = c.later.new.table.rows in
+    let numbered = IsNumber-grows c.args.table.now c.later.new.table 2 c.args.number c.in_ok-made.ensures.adds.grows c.requires.ready.numbered in
+    (above rows 1 c.args.number numbered, within rows 1 c.args.number numbered)
 
 pub returns-in_err-remember-clause-keeps : goal.returns-in_err-remember-clause-keeps
 returns-in_err-remember-clause-keeps g c =
