@@ -15,9 +15,9 @@ pub data Ask : Type 0 where
   Refuse : ScriptFault → Ask
 
 -- where a line stands: between commands, or in the text of a format, of the command on line `at`
-pub data Place : Type 0 where
-  Between : Place
-  InText : ℕ → Format → List ℕ → Place
+pub data LinePlace : Type 0 where
+  Between : LinePlace
+  InText : ℕ → Format → List ℕ → LinePlace
 
 -- a text without its end is refused, but not where the reading broke off
 abbrev pub without_end : End → ℕ → List Ask
@@ -35,12 +35,12 @@ asked_at n says None = asked_by n (command_of says) ∷ []
 asked_at n says (Some format) = []
 
 -- where the line behind it stands
-abbrev pub place_behind : ℕ → Option Format → Place
+abbrev pub place_behind : ℕ → Option Format → LinePlace
 place_behind n None = Between
 place_behind n (Some format) = InText n format []
 
 -- what the lines ask from line n on
-abbrev pub asks : End → Place → ℕ → List Line → List Ask
+abbrev pub asks : End → LinePlace → ℕ → List Line → List Ask
 asks stop Between n [] = []
 asks stop (InText at format text) n [] = without_end stop at
 asks stop Between n (line ∷ rest) =

@@ -6,7 +6,7 @@ use Rattle.script_lines.specs.Input.{FailsOrFull}
 use Rattle.text_lines.specs.Lines.{End, Broken, lines_until}
 use Rattle.script_lines.specs.Script.{MayFollow}
 use Rattle.script_lines.specs.Text.{IsText}
-use Rattle.desk_script.specs.Asks.{Ask, Obey, Take, Refuse, asks, asked_by, Place, Between}
+use Rattle.desk_script.specs.Asks.{Ask, Obey, Take, Refuse, asks, asked_by, LinePlace, Between}
 use Rattle.desk_script.specs.declared.command.Command.{Command}
 use Rattle.desk_script.specs.declared.request.Request.{Request}
 use Rattle.desk_script.specs.declared.request.Request.TheVariants as request
@@ -43,7 +43,7 @@ AsksIfAny (Some r) asked = (ask : Ask) × (asked ≡ ask ∷ []) × IsReadAs r a
 
 -- bytes were taken that ask for `asked` from this place on, whatever may follow them; they begin on
 -- line n, and what follows begins on line m
-pub record Hears (old new : Ahead) (place : Place) (heard : Option Request) (last : Bool) (n m : ℕ)
+pub record Hears (old new : Ahead) (place : LinePlace) (heard : Option Request) (last : Bool) (n m : ℕ)
     : Type 0 where
   pub bytes : List ℕ
   pub asked : List Ask
@@ -55,7 +55,7 @@ pub record Hears (old new : Ahead) (place : Place) (heard : Option Request) (las
   pub at_end : last ≡ true → IsAtEnd new.bytes
 
 -- the reading broke off before anything more was asked
-pub record BreaksOff (old new : Ahead) (place : Place) (n : ℕ) : Type 0 where
+pub record BreaksOff (old new : Ahead) (place : LinePlace) (n : ℕ) : Type 0 where
   pub bytes : List ℕ
   pub taken : TakesBytes old new bytes
   pub law : asks Broken place n (lines_until Broken bytes) ≡ []

@@ -42,9 +42,9 @@ AreCounts (Once generation) = IsCount generation
 AreCounts (Every first every last) = IsCount first × IsCount every × IsCount last
 
 -- the distance at which an intervention repeats has 64 bits, if it repeats
-abbrev pub IsCounted : Acts → Type 0
-IsCounted (Once generation) = Unit {0}
-IsCounted (Every first every last) = IsCount every
+abbrev pub IsWrittenDistance : Acts → Type 0
+IsWrittenDistance (Once generation) = Unit {0}
+IsWrittenDistance (Every first every last) = IsCount every
 
 -- an edit that a line writes: its numbers have these bits, and it sets a cell if it sets cells
 abbrev pub IsWritten : Asked → Type 0

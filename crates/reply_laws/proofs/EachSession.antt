@@ -11,7 +11,7 @@ use Rattle.schedule.proofs.Shared.Changed.{HasStates}
 use Rattle.schedule.proofs.Shared.Ids.{each_filter, each_map}
 use Rattle.document_replay.proofs.Shared.Made.{IsNumbered, made, numbered_opening, numbered_step, rows_few}
 use Rattle.desk_script.specs.Asks.{Between, asks}
-use Rattle.desk_script.specs.ReadsBack.{IsCounted}
+use Rattle.desk_script.specs.ReadsBack.{IsWrittenDistance}
 use Rattle.desk_script.proofs.Shared.Said.{Fits, LineFits, SetsSome, asks-fit}
 use Rattle.desk_server.specs.Answer.{Session, opening_session}
 use Rattle.reply_laws.specs.Anew.{HasText, IsMadeAnew, WhateverIsScriptedIsMadeAnew, sessions}
@@ -22,7 +22,7 @@ use Rattle.reply_laws.proofs.RuleTexts.{kept_texts, sessions-keep}
 
 -- an intervention that can be written
 abbrev CanStand : Intervention → Type 0
-CanStand i = (0 < length i.cells) × IsCounted i.acts
+CanStand i = (0 < length i.cells) × IsWrittenDistance i.acts
 
 abbrev AllStand : Plan → Type 0
 AllStand p = AllByRecursion CanStand p.interventions

@@ -24,7 +24,7 @@ use Rattle.desk_script.specs.declared.format.Format.{Format}
 use Rattle.desk_script.specs.declared.format.Format.TheVariants as format
 use Rattle.desk_script.specs.declared.command.Command.{Command}
 use Rattle.desk_script.specs.Command.{format_of}
-use Rattle.desk_script.specs.Asks.{Ask, Obey, Take, Refuse, Between, InText, Place, asked_at, asked_by, asks, place_behind}
+use Rattle.desk_script.specs.Asks.{Ask, Obey, Take, Refuse, Between, InText, LinePlace, asked_at, asked_by, asks, place_behind}
 use Rattle.desk_script.proofs.Shared.Said.{Fits, LineFits, TakesNoRule, asks-fit}
 use Rattle.desk_server.specs.Faults.{Fault, of_macrocell, of_pattern, of_rule, of_script}
 use Rattle.desk_server.specs.Shortage.{Shortage}
@@ -79,7 +79,7 @@ abbrev AsksText : Ask → Type 0
 AsksText (Take f text) = IsText text
 AsksText _ = ⊤
 
-abbrev BeginsText : Place → Type 0
+abbrev BeginsText : LinePlace → Type 0
 BeginsText Between = ⊤
 BeginsText (InText at f text) = IsText text
 
@@ -109,7 +109,7 @@ unless-last : (at n : ℕ) (f : Format) (text : List ℕ) (line : Line) (rest : 
     → AllByRecursion AsksText (asks Ended (InText at f text) n rest)
 unless-last at n f text line rest full more = grind (arith)
 
-asks-texts : (place : Place) (n : ℕ) (lines : List Line) → BeginsText place → AreFull lines
+asks-texts : (place : LinePlace) (n : ℕ) (lines : List Line) → BeginsText place → AreFull lines
     → AllByRecursion AsksText (asks Ended place n lines)
 asks-texts Between n [] begun full = tt
 asks-texts (InText at f text) n [] begun full = (tt, tt)
@@ -118,7 +118,7 @@ asks-texts Between n (line ∷ rest) begun full =
     (λ place begun. asks-texts place (n + 1) rest begun (rest-full line rest full))
   where
     between : (passed : Bool) (o : Option Format)
-        → ((place : Place) → BeginsText place → AllByRecursion AsksText (asks Ended place (n + 1) rest))
+        → ((place : LinePlace) → BeginsText place → AllByRecursion AsksText (asks Ended place (n + 1) rest))
         → AllByRecursion AsksText
         (cond passed (asks Ended Between (n + 1) rest)
         (asked_at n line.says o ++ asks Ended (place_behind n o) (n + 1) rest))

@@ -39,7 +39,7 @@ use Rattle.schedule.specs.Sound.{AreMarked, AreNamed, ArePlaced, IsAllowed, IsFo
 use Rattle.document_replay.specs.Replay.{add_all, add_bookmark, add_branch, add_intervention, bookmark_edits}
 use Rattle.document_replay.specs.Replay.{branch_edits, ids_between, intervention_edits, row_edits}
 use Rattle.document_replay.specs.Replay.{skip_bookmark, skip_branch, skip_intervention}
-use Rattle.desk_script.specs.ReadsBack.{AreWritten, IsCount, IsWritten, IsWrittenCell, IsWrittenView, IsCounted}
+use Rattle.desk_script.specs.ReadsBack.{AreWritten, IsCount, IsWritten, IsWrittenCell, IsWrittenView, IsWrittenDistance}
 use Rattle.reply_laws.specs.Anew.{CanBeWritten, HasText}
 
 -- ids between others
@@ -89,7 +89,7 @@ cells-written n [] few named below = tt
 cells-written n (c ∷ cs) few named below =
     (cell-written n c few named.0 below.0, cells-written n cs few named.1 below.1)
 
-insert-written : (b : ℕ) (acts : Acts) (cs : List CellSet) → IsCount b → IsTimely acts → IsCounted acts → AreWritten cs
+insert-written : (b : ℕ) (acts : Acts) (cs : List CellSet) → IsCount b → IsTimely acts → IsWrittenDistance acts → AreWritten cs
     → IsWritten (Insert b acts cs)
 insert-written b acts cs small timely counted cells = grind (arith)
 
@@ -132,7 +132,7 @@ module _ (p : Plan) (sound : IsSound p) (small : IsCount p.revision) where
   intervention-one : (xs : List Intervention) → AllByRecursion (λ (i : Intervention). i.id ≤ p.last_intervention) xs
       → ArePlaced p.branches xs → AllByRecursion (IsAllowed (states_of p.rule)) xs
       → AllByRecursion (λ (i : Intervention). 0 < length i.cells) xs
-      → AllByRecursion (λ (i : Intervention). IsCounted i.acts) xs
+      → AllByRecursion (λ (i : Intervention). IsWrittenDistance i.acts) xs
       → AllByRecursion (λ (i : Intervention). IsCount i.id × IsWritten (add_intervention i)) xs
   intervention-one [] given placed allowed some counted = tt
   intervention-one (i ∷ is) given placed allowed some counted =
@@ -161,7 +161,7 @@ module _ (p : Plan) (sound : IsSound p) (small : IsCount p.revision) where
       sound.views_within)
 
   interventions-written : AllByRecursion (λ (i : Intervention). 0 < length i.cells) p.interventions
-      → AllByRecursion (λ (i : Intervention). IsCounted i.acts) p.interventions
+      → AllByRecursion (λ (i : Intervention). IsWrittenDistance i.acts) p.interventions
       → AllByRecursion IsWritten (intervention_edits p)
   interventions-written some counted =
       all-written intervention_id skip_intervention add_intervention

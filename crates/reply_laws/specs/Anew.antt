@@ -13,7 +13,7 @@ use Rattle.schedule.specs.Plan.{Plan, opening}
 use Rattle.schedule.specs.Sound.{IsSound}
 use Rattle.document_replay.specs.Law.{IsMade, remade}
 use Rattle.document_replay.specs.Replay.{edits_for}
-use Rattle.desk_script.specs.ReadsBack.{IsCount, IsCounted}
+use Rattle.desk_script.specs.ReadsBack.{IsCount, IsWrittenDistance}
 use Rattle.desk_script.specs.Asks.{Ask, Between, asks}
 use Rattle.desk_script.specs.Scripted.{script_text}
 use Rattle.desk_server.specs.Answer.{After, Session, answer, opening_session, session_after}
@@ -58,7 +58,7 @@ pub record MakesAnew (script : List ℕ) (p : Plan) : Type 0 where
 -- and there are revisions enough
 pub record CanBeWritten (p : Plan) : Type 0 where
   pub cells : AllByRecursion (λ (i : Intervention). 0 < length i.cells) p.interventions
-  pub distances : AllByRecursion (λ (i : Intervention). IsCounted i.acts) p.interventions
+  pub distances : AllByRecursion (λ (i : Intervention). IsWrittenDistance i.acts) p.interventions
   pub start : length (rows_of p.start) ≤ 16777216
   pub revision : IsCount p.revision
   pub revisions : IsCount (length (edits_for p))

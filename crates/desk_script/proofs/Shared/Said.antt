@@ -13,14 +13,14 @@ use Rattle.schedule.specs.declared.edit.Edit.TheVariants as edit
 use Rattle.schedule.specs.Asked.{Asked, asked_of, Insert, Change, ReplaceRule, AddBranch}
 use Rattle.schedule.proofs.Shared.Changed.{HasStates}
 use Rattle.worlds.specs.declared.cell.CellSet.{CellSet}
-use Rattle.desk_script.specs.ReadsBack.{IsCount, IsCounted}
+use Rattle.desk_script.specs.ReadsBack.{IsCount, IsWrittenDistance}
 use Rattle.desk_script.specs.declared.interventions.Repeated.{Repeated}
 use Rattle.desk_script.specs.declared.format.Format.{Format}
 use Rattle.desk_script.specs.declared.command.Command.{Command}
 use Rattle.desk_script.specs.declared.command.Command.TheVariants as command
 use Rattle.desk_script.specs.View.{alone, view_of}
 use Rattle.desk_script.specs.Command.{cells_of, repeated_by, some_cells, cells_set, counted, on_of, change_of, change_named, changed_by, repeated_of, edit_in_branch, edit_in_named, further_edit_by, edit_by, looking_by, command_of, command_of_words, format_of, one_count, adds_branch}
-use Rattle.desk_script.specs.Asks.{Ask, Obey, Take, asked_at, asked_by, asks, Between, InText, Place, place_behind}
+use Rattle.desk_script.specs.Asks.{Ask, Obey, Take, asked_at, asked_by, asks, Between, InText, LinePlace, place_behind}
 
 -- the edit adds no branch
 abbrev pub AddsNone : Asked → Type 0
@@ -29,8 +29,8 @@ AddsNone _ = ⊤
 
 -- it sets a cell if it sets cells of interventions, at a distance of 64 bits if they repeat
 abbrev pub SetsSome : Asked → Type 0
-SetsSome (Insert b acts cells) = (0 < length cells) × IsCounted acts
-SetsSome (Change id acts cells) = (0 < length cells) × IsCounted acts
+SetsSome (Insert b acts cells) = (0 < length cells) × IsWrittenDistance acts
+SetsSome (Change id acts cells) = (0 < length cells) × IsWrittenDistance acts
 SetsSome _ = ⊤
 
 -- nor does it take a rule
@@ -190,7 +190,7 @@ asked-fits Q n adds c f h = grind (arith)
 abbrev pub LineFits : (Asked → Type 0) → Line → Type 0
 LineFits Q line = (a : Asked) → IsSaid (adds_branch (words line.says)) a → Q a
 
-pub asks-fit : (Q : Asked → Type 0) (stop : End) (place : Place) (n : ℕ) (lines : List Line)
+pub asks-fit : (Q : Asked → Type 0) (stop : End) (place : LinePlace) (n : ℕ) (lines : List Line)
     → AllByRecursion (LineFits Q) lines → AllByRecursion (Fits Q) (asks stop place n lines)
 asks-fit Q stop Between n [] h = tt
 asks-fit Q Ended (InText at format text) n [] h = (tt, tt)
@@ -199,7 +199,7 @@ asks-fit Q stop Between n (line ∷ rest) h =
     between (is_passed_over line.says) (format_of line.says) (λ place. asks-fit Q stop place (n + 1) rest h.1)
   where
     between : (passed : Bool) (o : Option Format)
-        → ((place : Place) → AllByRecursion (Fits Q) (asks stop place (n + 1) rest))
+        → ((place : LinePlace) → AllByRecursion (Fits Q) (asks stop place (n + 1) rest))
         → AllByRecursion (Fits Q)
         (cond passed (asks stop Between (n + 1) rest)
         (asked_at n line.says o ++ asks stop (place_behind n o) (n + 1) rest))
@@ -212,7 +212,7 @@ asks-fit Q stop Between n (line ∷ rest) h =
 asks-fit Q stop (InText at format text) n (line ∷ rest) h =
     inside (is_end line.says) (λ place. asks-fit Q stop place (n + 1) rest h.1)
   where
-    inside : (ends : Bool) → ((place : Place) → AllByRecursion (Fits Q) (asks stop place (n + 1) rest))
+    inside : (ends : Bool) → ((place : LinePlace) → AllByRecursion (Fits Q) (asks stop place (n + 1) rest))
         → AllByRecursion (Fits Q)
         (cond ends (Take format text ∷ asks stop Between (n + 1) rest)
         (asks stop (InText at format (text ++ line.raw)) (n + 1) rest))
