@@ -1,5 +1,5 @@
 //! Results of blocks of 4 by 4 cells that needn't be squares of a table.
-ghost use Rattle.std.specs.Prelude.{◌≡◌, ℕ, List, IfSome, IsTrue, []};
+ghost use Rattle.std.specs.Prelude.{◌≡◌, ◌+◌, ◌*◌, ◌^◌, ℕ, List, IfSome, IsTrue, []};
 ghost use Rattle.hash_engine.specs.Blocks.{AreKnownBlocks, IsRecalledOf, StayKnown, StayKnownWith};
 
 use std::alloc::Global;
@@ -30,21 +30,27 @@ const FEWEST: usize = 1 << 10;
 
 const MOST: usize = 1 << 16;
 
+// The numbers of two quadrants side by side, which are read at once.
+fn side_by_side(left: u32, right: u32) -> u64
+    ensures { result ≡ left + right * 2 ^ 32 }
+{
+    u64::from(left) + (u64::from(right) << 32)
+}
+
 // Where the result of a block is kept in a list of so many places, by a mix of the four numbers.
 fn place_of(quadrants: &[u32; 4], count: usize) -> usize {
-    let nw = u64::from(quadrants[0]).wrapping_mul(0x9e37_79b9_7f4a_7c15);
-    let ne = u64::from(quadrants[1]).wrapping_mul(0xd1b5_4a32_d192_ed03);
-    let sw = u64::from(quadrants[2]).wrapping_mul(0xbf58_476d_1ce4_e5b9);
-    let se = u64::from(quadrants[3]).wrapping_mul(0x94d0_49bb_1331_11eb);
-    let mix = nw.wrapping_add(ne).wrapping_add(sw).wrapping_add(se);
-    (mix >> 40) as usize & count.wrapping_sub(1)
+    let [nw, ne, sw, se] = *quadrants;
+    let north = side_by_side(nw, ne).wrapping_mul(0x9e37_79b9_7f4a_7c15);
+    let south = side_by_side(sw, se).wrapping_mul(0xd1b5_4a32_d192_ed03);
+    (north.wrapping_add(south) >> 40) as usize & count.wrapping_sub(1)
 }
 
 // Whether two blocks have the same quadrants.
 fn is_same(a: &[u32; 4], b: &[u32; 4]) -> bool
     ensures { IsTrue result → a.now ≡ b.now }
 {
-    a[0] == b[0] && a[1] == b[1] && a[2] == b[2] && a[3] == b[3]
+    let is_north = side_by_side(a[0], a[1]) == side_by_side(b[0], b[1]);
+    is_north && side_by_side(a[2], a[3]) == side_by_side(b[2], b[3])
 }
 
 /// The results of blocks, as many as there are places. Each block has one place, where what was kept

@@ -2,13 +2,16 @@
 use Rattle.std.specs.Prelude.{◌≡◌, ℕ, zero, suc, ◌+◌, ◌-◌, ◌*◌, ◌/◌, ◌%◌, ◌^◌, ◌<◌, ◌≤◌, List, [], length, get_or, slice_index, slice_index_or, bit_and}
 use Rattle.square_table.specs.declared.slots.Slot.{Slot}
 
+-- the numbers of two quadrants side by side
+abbrev pub side_by_side : ℕ → ℕ → ℕ
+side_by_side left right = left + right * 2 ^ 32
+
 -- a mix of the four numbers
 unfoldable pub mark_of : List ℕ → ℕ
 mark_of k =
-    ((((((slice_index k 0 * 0x9e37_79b9_7f4a_7c15) % 2 ^ 64
-    + (slice_index k 1 * 0xd1b5_4a32_d192_ed03) % 2 ^ 64) % 2 ^ 64
-    + (slice_index k 2 * 0xbf58_476d_1ce4_e5b9) % 2 ^ 64) % 2 ^ 64)
-    + (slice_index k 3 * 0x94d0_49bb_1331_11eb) % 2 ^ 64) % 2 ^ 64) / 2 ^ 32 % 2 ^ 32
+    (((side_by_side (slice_index k 0) (slice_index k 1) * 0x9e37_79b9_7f4a_7c15) % 2 ^ 64
+    + (side_by_side (slice_index k 2) (slice_index k 3) * 0xd1b5_4a32_d192_ed03) % 2 ^ 64) % 2 ^ 64)
+    / 2 ^ 32 % 2 ^ 32
 
 -- slots can lead to fewer rows than this: the place of one, and one more, takes 25 bits
 abbrev pub row_range : ℕ

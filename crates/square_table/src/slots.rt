@@ -3,7 +3,7 @@
 ghost use Rattle.std.specs.Prelude.{◌≡◌, ℕ, ◌^◌, ◌<◌, ◌≤◌, ◌+◌, [], ◌∷◌, ◌++◌, length, IfOk, IfErr, IfSome, OnOk, OnErr, vec_len, IsTrue, ◌↔◌};
 ghost use Rattle.square_table.specs.Squares.{Lacks};
 ghost use Rattle.square_table.specs.Rows.{kids_in, kids_of};
-ghost use Rattle.square_table.specs.Slots.{mark_of, tag_of, tag_in, row_in, row_range, first_of, next_of, AreEmpty, AreWithin, FindsRows, IsFreeFor, IsRowOf};
+ghost use Rattle.square_table.specs.Slots.{mark_of, side_by_side, tag_of, tag_in, row_in, row_range, first_of, next_of, AreEmpty, AreWithin, FindsRows, IsFreeFor, IsRowOf};
 
 use crate::row::Row;
 use std::alloc::{AllocError, Global};
@@ -52,17 +52,22 @@ impl Slot {
     }
 }
 
-/// A mix of the four numbers, where the way of a row through the slots begins: what is folded or
-/// shifted together less mixes worse.
+// The numbers of two quadrants side by side.
+fn side_by_side(left: u32, right: u32) -> u64
+    ensures { result ≡ side_by_side left right }
+{
+    u64::from(left) + (u64::from(right) << 32)
+}
+
+/// A mix of the four numbers, where the way of a row through the slots begins. Two are multiplied at
+/// once, as the upper half of the sum has bits of all.
 #[tactic(auto, unfolding(crate::specs::Slots::mark_of))]
 pub fn mark(kids: &[u32; 4]) -> u32
     ensures { result ≡ mark_of kids.now }
 {
-    let nw = u64::from(kids[0]).wrapping_mul(0x9e37_79b9_7f4a_7c15);
-    let ne = u64::from(kids[1]).wrapping_mul(0xd1b5_4a32_d192_ed03);
-    let sw = u64::from(kids[2]).wrapping_mul(0xbf58_476d_1ce4_e5b9);
-    let se = u64::from(kids[3]).wrapping_mul(0x94d0_49bb_1331_11eb);
-    (nw.wrapping_add(ne).wrapping_add(sw).wrapping_add(se) >> 32) as u32
+    let north = side_by_side(kids[0], kids[1]).wrapping_mul(0x9e37_79b9_7f4a_7c15);
+    let south = side_by_side(kids[2], kids[3]).wrapping_mul(0xd1b5_4a32_d192_ed03);
+    (north.wrapping_add(south) >> 32) as u32
 }
 
 // The first slot of a mark's way, of so many.
