@@ -74,10 +74,10 @@ first-outside s (suc n) w x y out =
     ∙ first-outside s n w x y (λ row left right. out row left (omega (arith, ints)))
 
 -- what a span does to its cells, and to others
-span-inside : (s : Span) (w : World) (x y : ℤ) → Holds s x y → cell (lay (cells_of_span s) w) x y ≡ s.state
+pub span-inside : (s : Span) (w : World) (x y : ℤ) → Holds s x y → cell (lay (cells_of_span s) w) x y ≡ s.state
 span-inside s w x y h = first-inside s s.count w x y h.row h.left h.right
 
-span-outside : (s : Span) (w : World) (x y : ℤ) → (Holds s x y → ⊥) → cell (lay (cells_of_span s) w) x y ≡ cell w x y
+pub span-outside : (s : Span) (w : World) (x y : ℤ) → (Holds s x y → ⊥) → cell (lay (cells_of_span s) w) x y ≡ cell w x y
 span-outside s w x y out = first-outside s s.count w x y (λ row left right. out (record { row = row; left = left; right = right }))
 
 -- spans drawn one list after another
@@ -89,7 +89,7 @@ drawn-same : (a : List Span) (v w : World) (x y : ℤ) → cell v x y ≡ cell w
 drawn-same a v w x y same = cell-lay (cells_of_spans a) v x y ∙ ap (last_mention (cells_of_spans a) x y) same ∙ sym (cell-lay (cells_of_spans a) w x y)
 
 -- spans that don't hold a cell leave it
-drawn-outside : (a : List Span) (w : World) (x y : ℤ) → All (λ s. Holds s x y → ⊥) a → cell (drawn a w) x y ≡ cell w x y
+pub drawn-outside : (a : List Span) (w : World) (x y : ℤ) → All (λ s. Holds s x y → ⊥) a → cell (drawn a w) x y ≡ cell w x y
 drawn-outside [] w x y out = refl
 drawn-outside (s ∷ a) w x y out =
     ap (λ (v : World). cell v x y) (lay-append (cells_of_span s) (cells_of_spans a) w)
@@ -174,7 +174,7 @@ pub drawn-at : (s : Span) (a b : Spot) (old new : ℕ) → a.x ≡ b.x → a.y �
 drawn-at s a b old new x y inside outside = record { inside = λ h. inside (subst₂ (Holds s) (sym x) (sym y) h); outside = λ out. outside (λ h. out (subst₂ (Holds s) x y h)) }
 
 -- whether a span holds a cell
-holds_or_not : (s : Span) (x y : ℤ) → Holds s x y ⊎ (Holds s x y → ⊥)
+pub holds_or_not : (s : Span) (x y : ℤ) → Holds s x y ⊎ (Holds s x y → ⊥)
 holds_or_not s x y = grind (arith, ints)
 
 -- a span is drawn on a square of level 1
@@ -324,7 +324,7 @@ added-level mid new k n s some added =
     (root_added mid new (k - 1) n s (subst (λ j. IsAdded mid new j n s) (sym up) added)).0 ∙ up
 
 -- a cell outside the square isn't one of a span inside
-out_of_reach : (p : Part) (s : Span) (x y : ℤ) → LiesIn p s → (Covers p x y → ⊥) → Holds s x y → ⊥
+pub out_of_reach : (p : Part) (s : Span) (x y : ℤ) → LiesIn p s → (Covers p x y → ⊥) → Holds s x y → ⊥
 out_of_reach p s x y lies out holds = out (record { left = omega (arith, ints); right = omega (arith, ints); top = omega (arith, ints); bottom = omega (arith, ints) })
 
 -- the world after spans that the root holds are drawn on it

@@ -4,6 +4,9 @@ pub mod Overlays
 pub mod Counting
 pub mod Walking
 pub mod Laying
+pub mod Strips
+pub mod Woven
+pub mod Weaving
 pub mod Entries
 pub mod Written
 pub mod Parts

@@ -5,6 +5,8 @@ pub mod Walks
 pub mod Centre
 pub mod Measures
 pub mod Laid
+pub mod Strips
+pub mod Woven
 pub mod Counts
 pub mod WorldRows
 pub mod Laws

@@ -29,7 +29,7 @@ const MANY: usize = 1 << 24;
 const MOST_HINTS: usize = 1 << 16;
 
 // The column behind the last cell of a span.
-fn end_of(span: &Span) -> i64
+pub fn end_of(span: &Span) -> i64
     requires { CanBeDrawn span.now }
     ensures { result ≡ span.now.x +ℤ pos span.now.count }
 {
@@ -214,7 +214,7 @@ fn slot(kids: &[u32; 4], count: usize) -> usize {
 
 // The number of the square of a row: 0 if it is empty, that of an equal row where a hint names one, and
 // else that of the row, which is added. A hint is the number of a row that was added shortly before.
-fn made(rows: &mut Vec<SquareRow>, hints: &mut [u32], row: SquareRow) -> Result<u32, AllocError>
+pub fn made(rows: &mut Vec<SquareRow>, hints: &mut [u32], row: SquareRow) -> Result<u32, AllocError>
     requires rows { AreRows rows.old.items × (length rows.old.items < 2 ^ 32) }
     requires row { IsRow rows.old.items row }
     ensures { IfOk result (λ n. IsMade rows.old.items rows.new.items row.level n
@@ -302,7 +302,7 @@ fn is_in(part: Part, span: &Span) -> bool
 }
 
 // Whether the cells of each span lie in the square.
-fn are_in(part: Part, spans: &[Span]) -> bool
+pub fn are_in(part: Part, spans: &[Span]) -> bool
     requires part { IsOnPlane part }
     requires spans { All CanBeDrawn spans.now }
     ensures { IsTrue result → All (LiesIn part) spans.now }
@@ -393,6 +393,6 @@ pub fn lay_rows(alloc: Global, rows: &mut Vec<SquareRow>, spans: &[Span]) -> Res
 }
 
 // No hints yet, with room for some of each span.
-fn hints_for(alloc: Global, count: usize) -> Result<Vec<u32>, AllocError> {
+pub fn hints_for(alloc: Global, count: usize) -> Result<Vec<u32>, AllocError> {
     vec![in alloc; 0u32; (8 * count.min(MOST_HINTS / 8)).next_power_of_two()]
 }

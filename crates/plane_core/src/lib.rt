@@ -9,9 +9,10 @@
 //! a smaller root does, and measures them in one more pass, so that `population`, `greatest` and
 //! `bounds` are there. `get` is one descent of at most 62 levels, and `equals` compares rows. `lay`
 //! adds a row for each square that holds a laid cell, at most 62 a cell, and makes the rows canonical
-//! again. `from_spans` takes cells side by side at once, and lets their list go before that. `cells_within` descends to each live cell
-//! in its box once, `live` sorts what it finds without one, and `counts` takes one pass over the rows
-//! from the root down.
+//! again. `from_spans` takes cells side by side at once, weaves those in reading order to squares from
+//! the bottom up, and lets their list go before that. `cells_within` descends to each live cell in its
+//! box once, `live` sorts what it finds without one, and `counts` takes one pass over the rows from
+//! the root down.
 //!
 //! The crate hands on what `worlds` declares of cells, rules and stops. `Loaded` is a pattern as a
 //! file holds it.
@@ -32,8 +33,10 @@ mod raise;
 mod row;
 mod shared_rows;
 mod span;
+mod strip;
 mod valid;
 mod walk;
+mod weave;
 mod within;
 
 pub use laws::{empty_world_has_one_row, worlds_have_one_list_of_rows, worlds_have_rows};

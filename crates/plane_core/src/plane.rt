@@ -20,6 +20,7 @@ use crate::row::SquareRow;
 use crate::shared_rows::SharedRows;
 use crate::span::{Span, spans_of};
 use crate::walk::walked;
+use crate::weave::rows_of;
 use crate::within::live_within;
 use std::alloc::{AllocError, Global};
 use std::marker::Model;
@@ -131,8 +132,7 @@ impl Plane {
         requires { All CanBeDrawn spans.items }
         ensures { IfOk result (λ plane. plane ≡ lay (cells_of_spans spans.items) blank) }
     {
-        let mut rows = Vec::new(alloc);
-        lay_rows(alloc, &mut rows, &spans)?;
+        let rows = rows_of(alloc, &spans)?;
         drop(spans);
         Plane::from_squares(alloc, &rows)
     }

@@ -7,6 +7,9 @@ use test_planes::{Row, all_can_be_drawn, laid, rows_of};
 
 const LAST: i64 = EDGE - 1;
 
+/// Half the side of the square in which spans in reading order are woven.
+const HALF: i64 = 1 << 31;
+
 /// Cells that are laid on a plane, and its rows before and after.
 struct Laying {
     what: &'static str,
@@ -120,7 +123,7 @@ struct Drawing {
     rows: &'static [Row],
 }
 
-const DRAWINGS: [Drawing; 8] = [
+const DRAWINGS: [Drawing; 12] = [
     Drawing {
         what: "no span",
         spans: &[],
@@ -174,6 +177,37 @@ const DRAWINGS: [Drawing; 8] = [
         what: "one span by others, in the same row and the next",
         spans: &[(0, 1, 1, 1), (1, 1, 1, 2), (0, 2, 1, 3), (-1, 1, 1, 4)],
         rows: &[(-1, 1, 4), (0, 1, 1), (1, 1, 2), (0, 2, 3)],
+    },
+    Drawing {
+        what: "two rows of one state, then a row alone",
+        spans: &[(-3, -2, 4, 1), (-2, -1, 4, 1), (5, -1, 1, 2), (-3, 2, 1, 1)],
+        rows: &[
+            (-3, -2, 1),
+            (-2, -2, 1),
+            (-1, -2, 1),
+            (0, -2, 1),
+            (-2, -1, 1),
+            (-1, -1, 1),
+            (0, -1, 1),
+            (1, -1, 1),
+            (5, -1, 2),
+            (-3, 2, 1),
+        ],
+    },
+    Drawing {
+        what: "a span of state 0 between others",
+        spans: &[(-1, 0, 1, 3), (0, 0, 2, 0), (2, 0, 1, 4)],
+        rows: &[(-1, 0, 3), (2, 0, 4)],
+    },
+    Drawing {
+        what: "spans 2^31 from the middle, and none farther",
+        spans: &[(-HALF, -HALF, 1, 1), (HALF - 2, HALF - 1, 1, 2)],
+        rows: &[(-HALF, -HALF, 1), (HALF - 2, HALF - 1, 2)],
+    },
+    Drawing {
+        what: "a span one farther",
+        spans: &[(-HALF, -HALF, 1, 1), (HALF - 1, HALF - 1, 1, 2)],
+        rows: &[(-HALF, -HALF, 1), (HALF - 1, HALF - 1, 2)],
     },
 ];
 

@@ -1,0 +1,6 @@
+use Rattle.std.proofs.Common.{◌≡◌, ℕ, drop}
+use Rattle.plane_core.specs.Strips.{IsOnward, number_at}
+use Rattle.plane_core.proofs.strip.past.Given as goal
+
+abbrev pub invariant-loop-i : goal.invariant-loop-i
+invariant-loop-i l = (a b : ℕ) → IsOnward l.x l.y a b → number_at (drop l.i l.strips) a b ≡ number_at l.strips a b
