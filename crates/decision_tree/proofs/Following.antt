@@ -1,9 +1,10 @@
 -- Following inputs through entries that are kept one after another.
-use Rattle.std.proofs.Common.{◌≡◌, ℕ, ◌+◌, ◌*◌, ◌<◌, true, List, ◌∷◌, length, drop, get_or, slice_index, sym, ap, arith}
+use Rattle.std.proofs.Common.{◌≡◌, ◌∙◌, ℕ, ◌+◌, ◌*◌, ◌<◌, true, All, Bor, List, ◌∷◌, length, drop, get_or, slice_index, sym, ap, arith}
 use Rattle.std.proofs.lemmas.Bool.{and_parts}
-use Rattle.std.proofs.lemmas.List.{drop_more}
+use Rattle.std.proofs.lemmas.List.{drop_more, get_or-map, length-map}
 use Rattle.std.proofs.lemmas.Nat.{mul-add-lt}
 use Rattle.decision_tree.specs.declared.tree.Neighbors.{Neighbors}
+use Rattle.decision_tree.specs.EntryForms.{states_at}
 use Rattle.decision_tree.specs.Kept.{nodes_in, tree_of_kept, IsKeptTree, Stores}
 use Rattle.decision_tree.specs.Tree.{node_at, leads, follow, next, is_quiescent, root_of, places_of, inputs_of}
 use Rattle.decision_tree.specs.TreeLaws.{leads-on, leads-width}
@@ -32,6 +33,19 @@ one_step n count entries number inputs k place filled leading more low at =
       leading = rw chosen (leads-on n nodes number input later on low);
       found = rw (chosen, split);
     }
+
+-- what stands where there is no input
+abbrev pub no_input : Bor ℕ
+no_input = record { ref_ptr = (0, 0); now = 0 }
+
+-- the same, where the inputs stand behind references
+pub step_at : (n count : ℕ) (entries : List ℕ) (number : ℕ) (inputs : List (Bor ℕ)) (k place : ℕ) → length entries ≡ count * n
+    → leads n (nodes_in n count entries) number (drop k (states_at inputs)) ≡ true → k < length inputs → All (λ s. s < n) (states_at inputs)
+    → place ≡ number * n + (get_or inputs k no_input).now → Step n count entries number (states_at inputs) k place
+step_at n count entries number inputs k place filled leading more below at =
+    let inside : k < length (states_at inputs) = rw (length-map inputs (λ (input : Bor ℕ). input.now)) more in
+    let same = get_or-map (λ (input : Bor ℕ). input.now) inputs k no_input 0 more in
+    one_step n count entries number (states_at inputs) k place filled leading inside (below k 0 inside) (at ∙ ap (λ s. number * n + s) (sym same))
 
 -- the root of a kept tree is its last node
 pub root-kept : (n : ℕ) (neighbors : Neighbors) (root : ℕ) (entries : List ℕ) → root_of (tree_of_kept n neighbors root entries) ≡ root

@@ -12,11 +12,11 @@ use Rattle.decision_tree.proofs.Shared.Growing.{is_next-node, depth-low, entries
 use Rattle.decision_tree.proofs.Shared.KeptNodes.{depths-nodes_of}
 
 -- small numbers are kept as they are
-all-small : (ns : List ℕ) → list_all (λ n. nat_lt n 4294967295) ns ≡ true → map saturated ns ≡ ns
+all-small : (ns : List ℕ) → list_all (λ n. nat_lt n 16777216) ns ≡ true → map saturated ns ≡ ns
 all-small [] h = refl
 all-small (n ∷ ns) h = grind (arith, nat_tests, all-small ns)
 
-all-below : (ns : List ℕ) → list_all (λ n. nat_lt n 4294967295) (map saturated ns) ≡ true → map saturated ns ≡ ns
+all-below : (ns : List ℕ) → list_all (λ n. nat_lt n 16777216) (map saturated ns) ≡ true → map saturated ns ≡ ns
 all-below [] h = refl
 all-below (n ∷ ns) h = grind (arith, nat_tests, all-below ns)
 

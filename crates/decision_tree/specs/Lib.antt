@@ -1,3 +1,6 @@
+pub mod Entry
+pub mod EntryForms
+pub mod EntryHashes
 pub mod Kept
 pub mod Laws
 pub mod Tree

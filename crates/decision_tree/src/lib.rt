@@ -11,12 +11,16 @@
 #![tactic(auto)]
 
 mod descriptors;
+mod entries;
+mod entry;
 mod laws;
 mod nodes;
 mod numbers;
 mod tree;
 mod tree_reader;
 
+pub use entries::Entries;
+pub use entry::{Entry, add_entries};
 pub use laws::{trees_of_files_are_sound, written_is_its_file, written_means_the_same};
 pub use tree::{Neighbors, TreeRule};
 pub use tree_reader::read_tree;

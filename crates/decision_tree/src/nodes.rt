@@ -6,6 +6,7 @@ ghost use Rattle.decision_tree.specs.Kept.{AreKept, IsTreeHead, nodes_of};
 ghost use Rattle.decision_tree.specs.TreeLines.{depth_of_root, do_entries_fit, is_next, nodes_from, with_line};
 
 use crate::descriptors::TreeHead;
+use crate::entry::{Entry, add_entries};
 use crate::numbers::read_numbers;
 use crate::tree::Neighbors;
 use rule_file::{RuleFault, RuleLine};
@@ -15,7 +16,7 @@ use std::alloc::Global;
 #[derive(Debug, Drop)]
 pub struct Nodes {
     pub depths: Vec<u32>,
-    pub entries: Vec<u32>,
+    pub entries: Vec<Entry>,
 }
 
 impl Nodes {
@@ -81,7 +82,7 @@ fn read_node(
         return Err(fault);
     }
     nodes.depths.push(*depth)?;
-    nodes.entries.extend_from_slice(entries)?;
+    add_entries(&mut nodes.entries, entries)?;
     Ok(())
 }
 

@@ -4,6 +4,7 @@ ghost use Rattle.rule_file.specs.States.{least_states, most_states};
 ghost use Rattle.decision_tree.specs.Kept.{nodes_in, Stores};
 ghost use Rattle.decision_tree.specs.Tree.{follow, inputs_of, next, places_of};
 
+use crate::entries::{Entries, follow};
 use plane_core::Around;
 use std::marker::Model;
 
@@ -25,7 +26,7 @@ pub struct TreeRule {
     // The number of the last node, counted from 0.
     root: u32,
     // The entries of all nodes in order, one for each state.
-    entries: Vec<u32>,
+    entries: Entries,
 }
 
 impl Model for TreeRule {
@@ -35,19 +36,19 @@ impl Model for TreeRule {
 
     ghost use Rattle.decision_tree.specs.Kept.{IsKeptTree, tree_of_kept};
 
-    ghost view = { λ rule. tree_of_kept rule.states rule.neighbors rule.root rule.entries.items };
+    ghost view = { λ rule. tree_of_kept rule.states rule.neighbors rule.root rule.entries };
 
     ghost invariant = { λ rule.
-        IsKeptTree rule.states rule.neighbors rule.root rule.entries.items };
+        IsKeptTree rule.states rule.neighbors rule.root rule.entries };
 }
 
 impl TreeRule {
     ghost use Rattle.decision_tree.specs.Kept.{IsKeptTree, tree_of_kept};
 
     /// The tree of these entries, which stand one node after another up to the root.
-    pub fn new(states: u16, neighbors: Neighbors, root: u32, entries: Vec<u32>) -> TreeRule
-        requires { IsKeptTree states neighbors root entries.items }
-        ensures { result ≡ tree_of_kept states neighbors root entries.items }
+    pub fn new(states: u16, neighbors: Neighbors, root: u32, entries: Entries) -> TreeRule
+        requires { IsKeptTree states neighbors root entries }
+        ensures { result ≡ tree_of_kept states neighbors root entries }
     {
         TreeRule {
             states,
@@ -97,7 +98,7 @@ pub(crate) fn next_in(
     states: u16,
     neighbors: Neighbors,
     root: u32,
-    entries: &[u32],
+    entries: &Entries,
     around: &Around,
 ) -> u8
     requires stores { Stores states (places_of neighbors) root entries.now }
@@ -105,23 +106,9 @@ pub(crate) fn next_in(
     ensures { result ≡ follow (nodes_in states (root + 1) entries.now) root
         (inputs_of neighbors around.now.0) }
 {
-    let [c, n, ne, e, se, s, sw, w, nw] = around.0;
+    let [c, n, ne, e, se, s, sw, w, nw] = &around.0;
     match neighbors {
         Neighbors::Four => follow(states, root, entries, &[n, w, e, s, c]),
         Neighbors::Eight => follow(states, root, entries, &[nw, ne, sw, se, n, w, e, s, c]),
     }
-}
-
-// The state to which these inputs lead from the root, where each node has an entry for each state.
-fn follow(states: u16, root: u32, entries: &[u32], inputs: &[u8]) -> u8
-    requires stores { Stores states inputs.now root entries.now }
-    requires below { All (λ s. s < states) inputs.now }
-    ensures { result ≡ follow (nodes_in states (root + 1) entries.now) root inputs.now }
-{
-    let width = usize::from(states);
-    let mut number = root as usize;
-    for input in inputs {
-        number = entries[number * width + usize::from(*input)] as usize;
-    }
-    number as u8
 }

@@ -6,6 +6,7 @@ ghost use Rattle.decision_tree.specs.Tree.{is_sound};
 ghost use Rattle.decision_tree.specs.TreeLines.{head_in, if_quiescent, last_number, tree_from, tree_of};
 
 use crate::descriptors::{TreeHead, read_head};
+use crate::entries::Entries;
 use crate::nodes::{Nodes, read_nodes};
 use crate::tree::{TreeRule, next_in};
 use plane_core::Around;
@@ -27,11 +28,11 @@ pub fn read_tree(alloc: Global, text: &RuleText) -> Result<TreeRule, RuleFault>
     let last = last_line(text);
     let (head, lines) = read_head(last, text.lines())?;
     let nodes = read_nodes(alloc, last, head, lines)?;
-    finish(head, nodes)
+    finish(alloc, head, nodes)
 }
 
 // The tree of these nodes, unless it is not quiescent.
-fn finish(head: TreeHead, nodes: Nodes) -> Result<TreeRule, RuleFault>
+fn finish(alloc: Global, head: TreeHead, nodes: Nodes) -> Result<TreeRule, RuleFault>
     requires head { IsTreeHead head }
     requires kept { AreKept head nodes.depths.items nodes.entries.items }
     requires whole { length nodes.depths.items ≡ head.node_count }
@@ -39,12 +40,13 @@ fn finish(head: TreeHead, nodes: Nodes) -> Result<TreeRule, RuleFault>
         (nodes_of head.states nodes.depths.items nodes.entries.items))) }
     ensures sound { IfOk result (λ tree. IsTrue (is_sound tree)) }
 {
+    let entries = Entries::of(alloc, nodes.entries)?;
     let root = head.node_count - 1;
     let zeros = Around([0; 9]);
-    if next_in(head.states, head.neighbors, root, &nodes.entries, &zeros) != 0 {
+    if next_in(head.states, head.neighbors, root, &entries, &zeros) != 0 {
         return Err(RuleFault::NotQuiescent);
     }
-    Ok(TreeRule::new(head.states, head.neighbors, root, nodes.entries))
+    Ok(TreeRule::new(head.states, head.neighbors, root, entries))
 }
 
 // The number of the section's last line, or of the line that opens it.

@@ -1,4 +1,5 @@
 //! Files with the trees that they mean, worked out by hand.
+mod entries;
 mod nodes;
 mod trees;
 

@@ -1,11 +1,11 @@
 -- Lists of tails and the nodes that do what they do.
-use Rattle.std.proofs.Common.{◌≡◌, ◌≢◌, ◌∙◌, inl, inr, ℕ, zero, suc, ◌+◌, ◌-◌, ◌<◌, ◌≤◌, Bool, false, cond, nat_lt, List, [], ◌∷◌, ◌++◌, All, Some, length, drop, slice_index, slice_index_or, append-nil, append_assoc, below_more, refl, sym, ap, subst, add-one, arith}
+use Rattle.std.proofs.Common.{◌≡◌, ◌≢◌, ◌∙◌, inl, inr, ℕ, zero, suc, ◌+◌, ◌-◌, ◌<◌, ◌≤◌, Bool, true, false, cond, nat_lt, List, [], ◌∷◌, ◌++◌, All, Some, length, drop, slice_index, slice_index_or, append-nil, append_assoc, below_more, refl, sym, ap, subst, add-one, arith}
 use Rattle.std.specs.List.{IsDistinct, list_any, position_or_len}
 use Rattle.std.specs.HashMap.{get}
 use Rattle.std.proofs.lemmas.Bool.{and_from, and_parts, cases_eq, cases_order, eq-eqb, eqb-true}
-use Rattle.std.proofs.lemmas.List.{drop_more, get_or-map, length-append, length-drop, length-map, map-append}
+use Rattle.std.proofs.lemmas.List.{drop_more, get_or-map, get_or_default, length-append, length-drop, length-map, map-append}
 use Rattle.std.proofs.lemmas.List.Elements.{All-append, All-cons, All-nil, All-push, All-tail}
-use Rattle.std.proofs.lemmas.List.Sums.{list_all-from_AllPass}
+use Rattle.std.proofs.lemmas.List.Sums.{AllPass-from_list_all, list_all-from_AllPass}
 use Rattle.std.proofs.lemmas.Map.Keys.{apart_from_distinct}
 use Rattle.std.proofs.lemmas.Slice.Eq.{bytes_eq-Decides}
 use Rattle.tree_translation.specs.declared.layers.Layer.{Layer}
@@ -16,12 +16,13 @@ use Rattle.tree_translation.specs.Layers.{Fit, IsGrownBy, IsLayer}
 use Rattle.tree_translation.specs.Numbering.{AreBegun, AreEntries, AreFit, AreNodes, AreTailsAt, GrowsNodes, IsBegun, IsEntry, IsFull, IsLeft, IsNode, IsNumberOf, IsStored, NeedsTooMany, entries_in, input_at, same_listed, same_node}
 use Rattle.tree_translation.specs.Starts.{NeedStarts, Start, StartsApart, start_at}
 use Rattle.tree_translation.specs.Translation.{Does, LeftOf, node_limit, outcome}
+use Rattle.decision_tree.specs.Entry.{entry_range}
 use Rattle.decision_tree.specs.Tree.{follow, node_at}
 use Rattle.std.proofs.lemmas.Bool.Decides.{nat_tests}
 use Rattle.std.proofs.lemmas.Grind.{common_steps, elements}
 use Rattle.tree_translation.proofs.Apart.{DifferAt, different-at}
 use Rattle.tree_translation.proofs.NodeLists.{each-push}
-use Rattle.tree_translation.proofs.Doing.{Does-append, Does-branch, Does-leaf, outcome-left}
+use Rattle.tree_translation.proofs.Doing.{Does-append, Does-branch, Does-leaf, leaves-below, outcome-left}
 
 -- nodes that differ in their numbers differ in their inputs or entries
 listed-apart : (nodes : List Node) → IsDistinct same_node nodes → (i j : ℕ) → i < j → j < length nodes → input_at nodes i ≡ input_at nodes j → node_at (entries_in nodes) i ≢ node_at (entries_in nodes) j
@@ -368,6 +369,22 @@ pub layer-last : (states : ℕ) (layers : List Layer) (input : ℕ) (d : Layer) 
 layer-last states (layer ∷ []) zero d fit last = fit.0
 layer-last states (layer ∷ layers) (suc input) d fit last = layer-last states layers input d fit.1 (omega (arith, last))
 layer-last states layers input d fit last = absurd (omega (arith, last))
+
+-- the entries of a node are small numbers: they are states, or the numbers of nodes
+pub entries-small : (states : ℕ) (layers : List Layer) (room : ℕ) (nodes : List Node) (input : ℕ) (list entries : List ℕ) → AreFit states layers room
+    → AreTailsAt layers input list → length nodes ≤ node_limit → AreEntries states layers nodes input list entries → All (λ n. n < entry_range) entries
+entries-small states [] room nodes input list entries fit tails few are = absurd (omega (arith, tails.there))
+entries-small states (first ∷ others) room nodes input list entries fit tails few are = λ k d l.
+    let layers = first ∷ others in
+    elim (cases_eq (input + 1) (length layers)) [
+      | inl last ↦
+          let leaves = leaves-below states (slice_index_or layers input first) list entries (layer-last states layers input first fit.fit last) (tails.inside first) (are.leaves last first) in
+          let low : nat_lt (slice_index_or entries k d) states ≡ true = AllPass-from_list_all (λ s. nat_lt s states) entries leaves k d l in
+          grind (arith, nat_tests, low, fit.at_most)
+      | inr other ↦
+          let one = (are.each (omega (arith, other, tails.there)) k (omega (arith, l, are.width))).number_of in
+          omega (arith, get_or_default entries k d 0 l, one.inside, few)
+    ]
 
 -- any other leaves tails of the next
 pub layer-before : (states : ℕ) (layers : List Layer) (input : ℕ) (d e : Layer) → Fit states layers → input + 1 < length layers → IsLayer (slice_index_or layers input d) (length (slice_index_or layers (input + 1) e).tails.items)

@@ -69,7 +69,7 @@ pub fn number_of(
     let entries = entries_of(alloc, states, layers, input, list, marks, found)?;
     let node = Node {
         input,
-        entries: Packed::of(alloc, entries)?,
+        entries: Packed::of(alloc, &entries)?,
     };
     let number = add_node(&mut found.nodes, node)?;
     found.numbers.insert(key, number)?;

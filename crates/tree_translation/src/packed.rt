@@ -2,10 +2,12 @@
 //!
 //! The entries of a node are a number for each state, and mostly many states in a row have the
 //! same. Such a list is kept as its runs where these are fewer than half as many as the numbers.
-ghost use Rattle.std.specs.Prelude.{◌≡◌, ◌≤◌, ◌+◌, ◌*◌, ◌++◌, length, nat_lt, IfOk, OnOk};
+ghost use Rattle.std.specs.Prelude.{◌≡◌, ◌<◌, ◌≤◌, ◌+◌, ◌*◌, ◌++◌, length, nat_lt, All, IfOk, OnOk};
+ghost use Rattle.decision_tree.specs.Entry.{entry_range};
 ghost use Rattle.rule_file.specs.States.{most_states};
 ghost use Rattle.tree_translation.specs.Packed.{ends_run, keeps_runs, runs_from, spread_from};
 
+use decision_tree::{Entry, add_entries};
 use std::alloc::{AllocError, Global};
 use std::hash::{Hash, Hasher};
 use std::marker::Model;
@@ -13,7 +15,7 @@ use std::marker::Model;
 /// Equal numbers in a row, up to a place.
 #[derive(Clone, Copy, Debug, PartialEq, Eq, Hash)]
 pub struct Run {
-    pub number: u32,
+    pub number: Entry,
     /// The place behind the last of them.
     pub until: u16,
 }
@@ -21,7 +23,7 @@ pub struct Run {
 /// How numbers are kept.
 #[derive(Debug, Drop)]
 pub enum Form {
-    Each(Vec<u32>),
+    Each(Vec<Entry>),
     Runs(Vec<Run>),
 }
 
@@ -44,21 +46,22 @@ impl Model for Packed {
 
 impl Packed {
     /// Packs a number for each state.
-    pub fn of(alloc: Global, numbers: Vec<u32>) -> Result<Packed, AllocError>
-        requires { length numbers.items ≤ most_states }
-        ensures { IfOk result (λ packed. packed ≡ numbers.items) }
+    pub fn of(alloc: Global, numbers: &[u32]) -> Result<Packed, AllocError>
+        requires count { length numbers.now ≤ most_states }
+        requires range { All (λ n. n < entry_range) numbers.now }
+        ensures { IfOk result (λ packed. packed ≡ numbers.now) }
     {
-        let runs = runs_of(alloc, &numbers)?;
+        let runs = runs_of(alloc, numbers)?;
         let form = if 2 * runs.len() < numbers.len() {
             Form::Runs(runs)
         } else {
-            Form::Each(numbers)
+            Form::Each(each_of(alloc, numbers)?)
         };
         Ok(Packed { form })
     }
 
     /// Puts the numbers behind others.
-    pub fn add_to(&self, numbers: &mut Vec<u32>) -> Result<(), AllocError>
+    pub fn add_to(&self, numbers: &mut Vec<Entry>) -> Result<(), AllocError>
         ensures { OnOk result (numbers.new.items ≡ numbers.old.items ++ self.now) }
     {
         match &self.form {
@@ -70,19 +73,30 @@ impl Packed {
 
 // The runs of numbers.
 fn runs_of(alloc: Global, numbers: &[u32]) -> Result<Vec<Run>, AllocError>
-    requires { length numbers.now ≤ most_states }
+    requires count { length numbers.now ≤ most_states }
+    requires range { All (λ n. n < entry_range) numbers.now }
     ensures { IfOk result (λ runs. runs.items ≡ runs_from 0 numbers.now) }
 {
     let mut runs = Vec::new(alloc);
     for (place, number) in numbers.iter().enumerate() {
         if ends_run(numbers, place) {
             runs.push(Run {
-                number: *number,
+                number: Entry::of(*number),
                 until: place as u16 + 1,
             })?;
         }
     }
     Ok(runs)
+}
+
+// The numbers one by one.
+fn each_of(alloc: Global, numbers: &[u32]) -> Result<Vec<Entry>, AllocError>
+    requires { All (λ n. n < entry_range) numbers.now }
+    ensures { IfOk result (λ entries. entries.items ≡ numbers.now) }
+{
+    let mut entries = Vec::with_capacity(alloc, numbers.len())?;
+    add_entries(&mut entries, numbers)?;
+    Ok(entries)
 }
 
 // Whether the next number is another, or there is none.
@@ -97,7 +111,7 @@ fn ends_run(numbers: &[u32], place: usize) -> bool
 }
 
 // Puts the numbers of runs behind others.
-fn add_runs(numbers: &mut Vec<u32>, runs: &[Run]) -> Result<(), AllocError>
+fn add_runs(numbers: &mut Vec<Entry>, runs: &[Run]) -> Result<(), AllocError>
     ensures { OnOk result (numbers.new.items ≡ numbers.old.items ++ spread_from 0 runs.now) }
 {
     let start = numbers.len();

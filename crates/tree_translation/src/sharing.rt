@@ -9,6 +9,7 @@ ghost use Rattle.tree_translation.specs.Translation.{node_limit};
 
 use crate::listed::Node;
 use crate::tree_fault::TreeFault;
+use decision_tree::Entry;
 use indexmap::IndexSet;
 use std::alloc::{AllocError, Global};
 
@@ -36,7 +37,7 @@ pub fn add_node(nodes: &mut IndexSet<Node>, node: Node) -> Result<u32, TreeFault
 }
 
 /// The entries of all nodes, one after another.
-pub fn joined(alloc: Global, states: u16, nodes: &[Node]) -> Result<Vec<u32>, AllocError>
+pub fn joined(alloc: Global, states: u16, nodes: &[Node]) -> Result<Vec<Entry>, AllocError>
     requires width { All (λ node. length node ≡ states) (entries_in nodes.now) }
     ensures filled { IfOk result (λ entries. length entries.items ≡ length nodes.now * states) }
     ensures nodes { IfOk result (λ entries. nodes_in states

@@ -20,7 +20,7 @@ use crate::listed::Node;
 use crate::numbering::{Found, number_of};
 use crate::sharing::joined;
 use crate::tree_fault::TreeFault;
-use decision_tree::{Neighbors, TreeRule};
+use decision_tree::{Entries, Neighbors, TreeRule};
 use indexmap::IndexSet;
 use std::alloc::Global;
 use std::collections::HashMap;
@@ -150,7 +150,7 @@ fn finish(alloc: Global, table: &SoundTable, nodes: &[Node]) -> Result<TreeRule,
     ensures nodes { IfOk result (λ tree. length tree.nodes ≡ length nodes.now) }
     ensures memory { IfErr result (λ fault. fault ≡ NoMemory) }
 {
-    let entries = joined(alloc, table.states(), nodes)?;
+    let entries = Entries::of(alloc, joined(alloc, table.states(), nodes)?)?;
     Ok(TreeRule::new(
         table.states(),
         neighbors_of(table.neighborhood()),

@@ -107,7 +107,7 @@ depth-low head depths depth node some low next = elim (cases_eq depth 1) [
 ]
 
 -- its entries are small numbers
-pub entries-low : (head : TreeHead) (depths : List ℕ) (depth : ℕ) (node : List ℕ) → IsTreeHead head → IsNextNode head depths depth node → list_all (λ n. nat_lt n 4294967295) node ≡ true
+pub entries-low : (head : TreeHead) (depths : List ℕ) (depth : ℕ) (node : List ℕ) → IsTreeHead head → IsNextNode head depths depth node → list_all (λ n. nat_lt n 16777216) node ≡ true
 entries-low head depths depth node limits next = elim (cases_eq depth 1) [
   | inl one ↦ list_all-follows _ _ node (fits-low head.states depths node depth (sym one) next.fits) (λ s k. grind (arith, nat_tests, k, limits.at_most))
   | inr more ↦ list_all-follows _ _ node (fits-high head.states depths node depth more next.fits) (λ s k. grind (arith, nat_tests, k, next.room, limits.few))

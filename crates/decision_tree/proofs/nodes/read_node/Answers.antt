@@ -46,7 +46,7 @@ returns-clause-read c =
     let depth = depth_in c.as_slice.result.now in
     let node = entries_in c.as_slice.result.now in
     let at = (goal.at.returns-clause-read c).After-is_next in
-    rw (c.in_ok-push.ensures.items, c.in_ok-extend_from_slice.ensures.items)
+    rw (c.in_ok-push.ensures.items, c.in_ok-add_entries.ensures)
     (with_kept c.args.head nodes.depths.items nodes.entries.items c.args.line.now.number _ depth node c.requires.head c.requires.kept (said at) true (test at ∙ c.if-not-is_next.false)
     ∙ ap Ok (sym (nodes_of-push c.args.head.states nodes.depths.items nodes.entries.items depth node c.requires.kept.filled
     (next (goal.at.returns-clause-read c).Else-not-is_next).width)))
@@ -54,6 +54,6 @@ returns-clause-read c =
 pub returns-clause-kept : goal.returns-clause-kept
 returns-clause-kept c =
     let nodes = c.args.nodes.now in
-    rw (c.in_ok-push.ensures.items, c.in_ok-extend_from_slice.ensures.items)
+    rw (c.in_ok-push.ensures.items, c.in_ok-add_entries.ensures)
     (kept-push c.args.head nodes.depths.items nodes.entries.items (depth_in c.as_slice.result.now) (entries_in c.as_slice.result.now) c.requires.head c.requires.kept
     (next (goal.at.returns-clause-kept c).Else-not-is_next))

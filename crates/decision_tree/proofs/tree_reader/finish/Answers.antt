@@ -13,7 +13,7 @@ found : (c : After-next_in) → c.next_in.result ≡ next (tree_of_kept c.args.h
 found c =
     let head = c.args.head in
     let root = head.node_count - 1 in
-    rw c.deref.ensures.value at c.next_in.ensures ∙ next-kept head.states head.neighbors root c.args.nodes.entries.items nine_zeros
+    rw c.in_ok-entries.ensures at (c.next_in.ensures ∙ next-kept head.states head.neighbors root c.in_ok-entries.entries nine_zeros)
 
 -- where it is 0 the tree is one that a file may have
 kept : (c : Else-next_in-ne0) → IsKeptTree c.args.head.states c.args.head.neighbors (c.args.head.node_count - 1) c.args.nodes.entries.items
@@ -30,7 +30,7 @@ returns-then-next_in-ne0-clause-tree c =
     (λ still. c.if-next_in-ne0.true (found (goal.at.returns-then-next_in-ne0-clause-tree c).After-next_in ∙ still)))
 
 pub new-requires : goal.new-requires
-new-requires c = kept (goal.at.new-requires c).Else-next_in-ne0
+new-requires c = rw c.in_ok-entries.ensures (kept (goal.at.new-requires c).Else-next_in-ne0)
 
 pub returns-clause-tree : goal.returns-clause-tree
 returns-clause-tree c =
@@ -39,7 +39,7 @@ returns-clause-tree c =
     ap if_quiescent (tree-kept head c.args.nodes.depths.items c.args.nodes.entries.items root (omega (arith, c.requires.whole, c.requires.head.some)))
     ∙ if_quiescent-yes (tree_of_kept head.states head.neighbors root c.args.nodes.entries.items)
     (sym (found (goal.at.returns-clause-tree c).After-next_in) ∙ c.if-next_in-ne0.false)
-    ∙ ap (λ tree. Ok tree) (sym c.new.ensures)
+    ∙ ap Ok (sym (rw c.in_ok-entries.ensures at c.new.ensures))
 
 pub returns-clause-sound : goal.returns-clause-sound
-returns-clause-sound c = rw c.new.ensures (kept (goal.at.returns-clause-sound c).Else-next_in-ne0).sound
+returns-clause-sound c = rw (c.new.ensures, c.in_ok-entries.ensures) (kept (goal.at.returns-clause-sound c).Else-next_in-ne0).sound

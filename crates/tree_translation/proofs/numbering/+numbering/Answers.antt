@@ -8,7 +8,7 @@ use Rattle.tree_translation.specs.Near.{TreatsAlike}
 use Rattle.tree_translation.specs.Numbering.{AreFit, AreTailsAt, GrowsNodes, IsEntry, IsNumberOf}
 use Rattle.tree_translation.specs.Translation.{LeftOf}
 use Rattle.tree_translation.proofs.Apart.{passed-on}
-use Rattle.tree_translation.proofs.MadeNodes.{Grows-behind, IsEntry-append, is-later, NeedsTooMany-behind, layer-before, layer-last, layer-room, made, too-many}
+use Rattle.tree_translation.proofs.MadeNodes.{Grows-behind, IsEntry-append, entries-small, is-later, NeedsTooMany-behind, layer-before, layer-last, layer-room, made, too-many}
 use Rattle.std.proofs.lemmas.Grind.{common_steps}
 use Rattle.std.proofs.lemmas.List.{get_or_default}
 use Rattle.tree_translation.proofs.NodeLists.{each-filled}
@@ -96,6 +96,12 @@ entries_of-loop-state-preserved t c =
       latest = numbered;
     }
 
+pub number_of-of-requires-clause-range : goal.number_of-of-requires-clause-range
+number_of-of-requires-clause-range t c =
+    let entries = c.in_ok-entries.ensures in
+    rw c.deref.ensures.value (entries-small c.args.states c.args.layers.now (length c.args.marks.now) c.entries_of.new.found.nodes.keys c.args.input c.args.list.now c.in_ok-entries.entries.items
+    c.requires.fit c.requires.tails entries.grows.known.few entries.entries)
+
 pub number_of-returns-in-Some-clause-number : goal.number_of-returns-in-Some-clause-number
 number_of-returns-in-Some-clause-number t c =
     let key : Listed = record { input = c.args.input; numbers = c.in_ok-to_vec.field-0 } in
@@ -112,7 +118,7 @@ number_of-returns-in_err-number-clause-large t c =
     let entries = c.in_ok-entries.ensures in
     passed-on c.from_residual-in_err-number.result c.in_err-number.field-0.0 _ c.from_residual-in_err-number.ensures.1
     (λ e. too-many c.args.states c.args.layers.now (length c.args.marks.now) c.args.input c.args.list.now c.args.found.now c.entries_of.new.found node c.requires.fit c.requires.tails entries.grows
-    (rw c.in_ok-of.ensures entries.entries) refl
+    (rw (c.in_ok-of.ensures, c.deref.ensures.value) entries.entries) refl
     (c.in_err-number.ensures.large e))
 
 pub number_of-returns : goal.number_of-returns
@@ -123,6 +129,6 @@ number_of-returns t c =
     let entries = c.in_ok-entries.ensures in
     let stored = c.in_ok-number.ensures in
     let comes = made c.args.states c.args.layers.now (length c.args.marks.now) c.args.input c.args.list.now c.args.found.now c.entries_of.new.found node c.requires.fit
-    c.requires.tails entries.grows (rw c.in_ok-of.ensures entries.entries) refl new c.in_ok-number.number key refl
+    c.requires.tails entries.grows (rw (c.in_ok-of.ensures, c.deref.ensures.value) entries.entries) refl new c.in_ok-number.number key refl
     (c.in_ok-to_vec.ensures.items_if_clones_equal (λ x y h. h)) stored.stored stored.grown stored.apart stored.few c.in_ok-insert.ensures.updates.0 in
     record { number = comes.numbered; grows = comes.grows; last = comes.last; clear = entries.clear; large = tt }

@@ -10,8 +10,8 @@ pub returns : goal.returns
 returns c =
     let a = c.self.inside in
     let b = c.other.inside in
-    let x = a.entries.items in
-    let y = b.entries.items in
+    let x = a.entries in
+    let y = b.entries in
     let states : a.states ≡ b.states = c.if-self-other.false in
     let neighbors : a.neighbors ≡ b.neighbors = differs_false the_type (search rules) _ _ (sym c.if-ne.ensures) in
     let same = bytes_eq-Decides x y in (

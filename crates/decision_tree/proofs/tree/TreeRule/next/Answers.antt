@@ -5,13 +5,12 @@ use Rattle.decision_tree.proofs.tree.TreeRule.next.Goals as goal
 
 pub next_in-requires-clause-stores : goal.next_in-requires-clause-stores
 next_in-requires-clause-stores c =
-    rw c.deref.ensures.value
-    (stores-kept c.self.inside.states c.self.inside.neighbors c.self.inside.root c.self.inside.entries.items c.self.invariant)
+    stores-kept c.self.inside.states c.self.inside.neighbors c.self.inside.root c.self.inside.entries c.self.invariant
 
 pub returns : goal.returns
 returns c =
     let rule = c.self.inside in
     let around = c.args.around.now.0 in
-    rw c.deref.ensures.value at c.next_in.ensures
-    ∙ next-kept rule.states rule.neighbors rule.root rule.entries.items around
+    c.next_in.ensures
+    ∙ next-kept rule.states rule.neighbors rule.root rule.entries around
     ∙ ap (λ tree. next tree around) c.self.view_is

@@ -1,18 +1,19 @@
 use Rattle.std.proofs.Common.{◌≡◌, ◌∙◌, ◌+◌, ◌*◌, ℕ, get_or, arith}
-use Rattle.decision_tree.proofs.Following.{Step, one_step}
-use Rattle.decision_tree.proofs.tree.follow.Goals as goal
-use Rattle.decision_tree.proofs.tree.follow.Goals.{In-loop-input}
+use Rattle.decision_tree.specs.EntryForms.{states_at}
+use Rattle.decision_tree.proofs.Following.{Step, no_input, step_at}
+use Rattle.decision_tree.proofs.entries.follow_narrow.Goals as goal
+use Rattle.decision_tree.proofs.entries.follow_narrow.Goals.{In-loop-input}
 
 -- what one more input does
-step : (c : In-loop-input) (place : ℕ) → place ≡ c.loop-input.number * c.args.states + get_or c.args.inputs.now c.loop-input.input-index 0
-    → Step c.args.states (c.args.root + 1) c.args.entries.now c.loop-input.number c.args.inputs.now c.loop-input.input-index place
+step : (c : In-loop-input) (place : ℕ) → place ≡ c.loop-input.number * c.args.states + (get_or c.args.inputs.now c.loop-input.input-index no_input).now
+    → Step c.args.states (c.args.root + 1) c.args.entries.now c.loop-input.number (states_at c.args.inputs.now) c.loop-input.input-index place
 step c place at =
-    one_step c.args.states (c.args.root + 1) c.args.entries.now c.loop-input.number c.args.inputs.now c.loop-input.input-index place c.requires.stores.filled
-    c.loop-input.invariant.leading c.loop-input-test.true (c.requires.below c.loop-input.input-index 0 c.loop-input-test.true) at
+    step_at c.args.states (c.args.root + 1) c.args.entries.now c.loop-input.number c.args.inputs.now c.loop-input.input-index place c.requires.stores.filled
+    c.loop-input.invariant.leading c.loop-input-test.true c.requires.below at
 
 pub overflow_mul-number : goal.overflow_mul-number
 overflow_mul-number c =
-    let place = c.loop-input.number * c.from-width.result + get_or c.args.inputs.now c.loop-input.input-index 0 in
+    let place = c.loop-input.number * c.from-width.result + (get_or c.args.inputs.now c.loop-input.input-index no_input).now in
     omega (arith, (step (goal.at.overflow_mul-number c).In-loop-input place (rw c.from-width.ensures)).inside)
 
 pub overflow_add-number : goal.overflow_add-number
@@ -31,4 +32,4 @@ bounds-entries-number c = (step (goal.at.bounds-entries-number c).In-loop-input 
 pub loop-input-preserved : goal.loop-input-preserved
 loop-input-preserved c =
     let one = step (goal.at.loop-input-preserved c).In-loop-input (c.loop-input.number * c.from-width.result + c.from.result) (rw (c.from-width.ensures, c.from.ensures)) in
-    record { leading = one.leading; found = one.found ∙ c.loop-input.invariant.found }
+    rw c.from-number.ensures (record { leading = one.leading; found = one.found ∙ c.loop-input.invariant.found })
