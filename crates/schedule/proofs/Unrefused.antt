@@ -7,6 +7,7 @@ use Rattle.std.proofs.lemmas.Bool.{not-false, ltb-false, leb-false}
 use Rattle.std.proofs.lemmas.Bool.Decides.{nat_tests}
 use Rattle.worlds.specs.declared.cell.CellSet.{CellSet}
 use Rattle.rule_tree.specs.Rule.{states_of}
+use Rattle.rule_tree.specs.declared.rule.Rule.{Rule}
 use Rattle.bookmarks.specs.declared.view.View.{View}
 use Rattle.bookmarks.specs.Within.{KeepsViewLimits}
 use Rattle.schedule.specs.declared.acts.Acts.{Acts}
@@ -17,7 +18,7 @@ use Rattle.schedule.specs.Sound.{AreNamed, SetBelow, IsPlaced}
 use Rattle.schedule.specs.Acts.{repeats, first_of, IsTimely}
 use Rattle.schedule.specs.Repeats.{repeat_marks, has_too_many_marks}
 use Rattle.schedule.specs.Branches.{has_branch, fork_of, intervention_branch}
-use Rattle.schedule.specs.Change.{first_refusal, for_cells_before, for_marks, for_inserted, for_changed, for_intervention, for_changed_intervention, for_bookmark, for_view, for_branch, acts_too_far, is_bad_repeat, with_intervention, with_changed_intervention, changed_bookmarks, with_branch, is_too_far, is_before_fork}
+use Rattle.schedule.specs.Change.{first_refusal, for_cells_before, for_marks, for_inserted, for_changed, for_intervention, for_changed_intervention, for_rule, for_bookmark, for_view, for_branch, acts_too_far, is_bad_repeat, with_intervention, with_changed_intervention, changed_bookmarks, with_branch, is_too_far, is_before_fork}
 use Rattle.schedule.proofs.Below.{AreNamed-stay, SetBelow-test}
 
 pub passed : (b : Bool) (fault : EditFault) (rest : Option EditFault) → (if b then Some fault else rest) ≡ None
@@ -44,6 +45,10 @@ pub record FitMarks (more : Bool) (p q : Plan) : Type 0 where
 
 pub fit_marks : (more : Bool) (p q : Plan) → first_refusal (for_marks more p q) ≡ None → FitMarks more p q
 fit_marks more p q h = grind (arith, nat_tests)
+
+-- nor another rule
+pub fit_rule : (p : Plan) (rule : Rule) → first_refusal (for_rule p rule) ≡ None → p.revision + 1 < 2 ^ 64
+fit_rule p rule h = grind (arith, nat_tests)
 
 pub few_enough : (q : Plan) → has_too_many_marks q ≡ false → repeat_marks q ≤ 8192
 unfolding has_too_many_marks
