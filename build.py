@@ -4,8 +4,8 @@ standard error how far it is.
 
 A crate is proved by the toolchain's `rattle` as soon as the crates below it are, from nothing and over
 their statements alone, which is all that it may cite. Crates that don't stand on one another are proved
-side by side, those with the longest way up to the program first, and several processes share the proofs
-of one. What was proved of the same text is kept beside
+side by side, those with the longest way up to the program first, and where there are fewer of them than
+processors, several processes share the proofs of one. What was proved of the same text is kept beside
 the program, in its folder `out`.
 """
 import asyncio
@@ -229,28 +229,26 @@ def urgency(crate):
 
 
 def lanes():
-    """How many processes may prove at a time.
-
-    They are twice as many as there are processors, since a proof waits for its slowest part with one process.
-    """
-    return max(1, min(2 * processors(), free_memory() // MEMORY))
+    """How many processes may prove at a time."""
+    return max(1, min(processors(), free_memory() // MEMORY))
 
 
 def next_to_prove(waiting, running, room):
     """The crates that can be proved now, and by how many processes each.
 
-    The most urgent of all under way gets as many as gain anything, since the others wait for it, and each other
-    one gets two at most, so that there is work beside it.
+    Each gets an equal share of those that are idle, of at most two. The most urgent of all under way gets two
+    at least, even if there is one process too many then, and more where no other crate can be proved.
     """
     ready = sorted((it for it in waiting if it.below.isdisjoint(waiting | running.keys())), key=urgency, reverse=True)
-    idle, most_urgent = room - sum(running.values()), max(map(urgency, running), default=0)
-    for crate in ready:
-        most = MOST_JOBS if urgency(crate) >= most_urgent else 2
-        jobs = min(most, idle)
-        if jobs < 1:
-            return
+    idle, is_only = room - sum(running.values()), len(ready) == 1
+    most_urgent = max(map(urgency, running), default=0)
+    while ready and idle > 0:
+        share = idle // len(ready)
+        crate, jobs = ready.pop(0), min(max(1, share), 2)
+        if urgency(crate) >= most_urgent:
+            jobs, most_urgent = max(min(2, room), min(share, MOST_JOBS) if is_only else 0), urgency(crate)
         yield crate, jobs
-        idle, most_urgent = idle - jobs, max(most_urgent, urgency(crate))
+        idle -= jobs
 
 
 async def prove_all(waiting, progress):

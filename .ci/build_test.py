@@ -58,17 +58,16 @@ class Order(unittest.TestCase):
         self.assertEqual(self.next({self.low, self.left, self.right}, {}), [(self.top, 4)])
 
     def test_crates_side_by_side_share_them(self):
-        self.assertEqual(self.next({self.low}, {}, room=8), [(self.right, 4), (self.left, 2)])
-        self.assertEqual(self.next({self.low}, {}, room=5), [(self.right, 4), (self.left, 1)])
+        self.assertEqual(self.next({self.low}, {}), [(self.right, 2), (self.left, 2)])
         self.assertEqual(self.next({self.low}, {}, room=2), [(self.right, 2)])
 
-    def test_the_most_urgent_gets_the_most(self):
-        self.assertEqual(self.next({self.low}, {self.left: 2}, room=8), [(self.right, 4)])
-        self.assertEqual(self.next({self.low}, {self.right: 4}, room=8), [(self.left, 2)])
-
-    def test_a_crate_gets_what_is_left(self):
-        self.assertEqual(self.next({self.low}, {self.left: 3}), [(self.right, 1)])
+    def test_the_most_urgent_gets_two(self):
+        self.assertEqual(self.next({self.low}, {self.left: 3}), [(self.right, 2)])
         self.assertEqual(self.next({self.low}, {self.right: 3}), [(self.left, 1)])
+
+    def test_the_most_urgent_gets_what_no_other_can_use(self):
+        self.assertEqual(self.next({self.low}, {self.left: 1}), [(self.right, 3)])
+        self.assertEqual(self.next({self.low}, {self.right: 1}), [(self.left, 2)])
 
     def test_a_crate_waits_for_those_below_it_and_for_a_process(self):
         self.assertEqual(self.next(set(), {self.low: 2}), [])
