@@ -83,7 +83,7 @@ def odd(desk, case):
     elif case == "no file":
         desk.start("/nowhere/at.rle")
     elif case == "huge":
-        desk.start_text("x = 9, y = 9\n16000000o!\n")
+        desk.start_text("x = 9, y = 9\n" + 4_000_000 * "bo" + "!\n")
     elif case == "bug":
         return 1 // 0
     elif case == "pending":
