@@ -43,8 +43,8 @@ AsksIfAny (Some r) asked = (ask : Ask) × (asked ≡ ask ∷ []) × IsReadAs r a
 
 -- bytes were taken that ask for `asked` from this place on, whatever may follow them; they begin on
 -- line n, and what follows begins on line m
-pub record Hears (old new : Ahead) (place : LinePlace) (heard : Option Request) (last : Bool) (n m : ℕ)
-    : Type 0 where
+pub record Hears (old new : Ahead) (place : LinePlace) (heard : Option Request) (last : Bool)
+    (n m : ℕ) : Type 0 where
   pub bytes : List ℕ
   pub asked : List Ask
   pub taken : TakesBytes old new bytes
