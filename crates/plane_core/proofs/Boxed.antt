@@ -1,20 +1,6 @@
 -- The live cells of squares that lie in a box.
-use Rattle.std.proofs.Common.{◌≡◌, ℕ, ◌+◌, ◌-◌, ◌<◌, ◌≤◌, ◌^◌, Bool, cond, List, [], ◌∷◌, ◌++◌, refl, ap, ◌∙◌, arith, inl, inr, ℤ, pos, ◌+ℤ◌}
-use Rattle.std.specs.Prelude.{int_le}
-use Rattle.std.proofs.lemmas.Bool.{cases_lt, cond-true, cond-false}
-use Rattle.std.proofs.lemmas.Int.{ints}
-use Rattle.std.proofs.lemmas.List.Elements.{All-nil, All-cons, All-append}
-use Rattle.std.proofs.lemmas.List.Sums.{sum_by-append, sum_by-cons}
-use Rattle.worlds.specs.declared.cell.Bounds.{Bounds}
-use Rattle.worlds.specs.declared.cell.Cell.{Cell}
-use Rattle.worlds.specs.World.{World, cell, same_place}
-use Rattle.worlds.specs.Fill.{is_same}
-use Rattle.worlds.specs.Range.{IsInBox}
-use Rattle.plane_core.specs.declared.row.SquareRow.{SquareRow}
-use Rattle.plane_core.specs.declared.part.Part.{Part}
-use Rattle.plane_core.specs.Rows.{world_of_rows}
-use Rattle.plane_core.specs.Part.{Covers, IsQuadrant, IsRoot, Shows}
-use Rattle.plane_core.specs.Within.{IsLiveWithin, AreLiveWithin, Gathers, InFirst, count_at}
+use Rattle.plane_core.proofs.Names.{All-append, All-cons, All-nil, AreLiveWithin, Bool, Bounds, Cell, Covers, Gathers, InFirst, IsInBox, IsLiveWithin, IsQuadrant, IsRoot, List, Part, Shows, SquareRow, World, [], ap, arith, cases_lt, cell}
+use Rattle.plane_core.proofs.Names.{cond, cond-false, cond-true, count_at, inl, inr, int_le, ints, is_same, pos, refl, same_place, sum_by-append, sum_by-cons, world_of_rows, ℕ, ℤ, ◌++◌, ◌+ℤ◌, ◌+◌, ◌-◌, ◌<◌, ◌^◌, ◌∙◌, ◌∷◌, ◌≡◌, ◌≤◌}
 use Rattle.plane_core.proofs.Laying.{outer_place}
 use Rattle.plane_core.proofs.Parts.{in_quadrant, of_quadrant, shows-none, shows-state, root-live}
 

@@ -1,22 +1,15 @@
 -- The counts of states, row by row.
-use Rattle.std.proofs.Common.{◌≡◌, ℕ, zero, suc, ◌+◌, ◌*◌, ◌-◌, ◌<◌, ◌≤◌, ◌^◌, ◌==◌, false, cond, List, [], ◌∷◌, ◌++◌, length, get_or, set, replicate, refl, sym, ap, ap₂, ◌∙◌, subst, arith, inl, inr, pow_mono, ℤ}
-use Rattle.std.proofs.Common.{get_or-set_same, get_or-set_other}
-use Rattle.std.specs.List.{AllByRecursion, count_by}
-use Rattle.std.proofs.lemmas.Bool.{cases_lt, eq-eqb, ne_eqb}
-use Rattle.std.proofs.lemmas.List.{get_or_append_left, get_or_push, length_push, get_or-replicate, length-replicate, length-set}
-use Rattle.std.proofs.lemmas.List.Sums.{sum_by-cons}
+use Rattle.plane_core.proofs.Names.{AreCountsOf, AreRows, Gains, HasRoom, IsNumber, IsTallied, List, Square, SquareRow, Tally, [], ap, ap₂, arith, blank, cases_lt, cell-blank, cond, count_of, edge_of, eq-eqb, four, get_or, get_or-replicate}
+use Rattle.plane_core.proofs.Names.{get_or-set_other, get_or-set_same, get_or_append_left, get_or_push, held, inl, inr, is_any, is_live, is_state, kid, length, length-replicate, length-set, length_push, ne_eqb, no_row, one, pow_mono, refl}
+use Rattle.plane_core.proofs.Names.{replicate, root_level, root_of, row_square, set, square_in, subst, suc, sum, sum_by_more, sym, take, tally, world_of_rows, zero, ℕ, ◌*◌, ◌++◌, ◌+◌, ◌-◌, ◌<◌, ◌^◌, ◌∙◌, ◌∷◌, ◌≡◌, ◌≤◌}
+use Rattle.std.proofs.Math.Seq.{take-length}
 use Rattle.std.proofs.Math.Nat.{add-mul, mul-add, mul-one, mul-zero, zero-mul, le-mul_of_pos_right}
-use Rattle.worlds.specs.World.{World, Place, cell, blank, cell-blank}
-use Rattle.worlds.specs.Live.{live, live-states, count_of}
-use Rattle.worlds.specs.Square.{Square, one, four}
-use Rattle.plane_core.specs.declared.row.SquareRow.{SquareRow}
-use Rattle.plane_core.specs.declared.counts.Tally.{Tally}
-use Rattle.plane_core.specs.Rows.{no_row, kid, IsNumber, AreRows, square_in, root_level, root_of, edge_of, world_of_rows}
-use Rattle.plane_core.specs.Counts.{tally, is_state, is_any, cells_with, row_square, sum_to, held, HasRoom, Gains, IsTallied}
+use Rattle.plane_core.specs.Counts.{sum_to}
 use Rattle.plane_core.proofs.Shared.Sound.{square_in-none, square_in-state, square_in-row, state-IsNumber, number-listed}
 use Rattle.plane_core.proofs.Shared.Roots.{rooted, root-IsSquare, world-root}
-use Rattle.plane_core.proofs.Totals.{total, total-blank, total-put_square, tally-le, tally-empty}
-use Rattle.plane_core.proofs.Shared.Measuring.{kid_is}
+use Rattle.plane_core.proofs.Totals.{total, total-blank, total-put_square, population-total, tally-le, tally-empty, is_live-le}
+use Rattle.plane_core.proofs.Measured.{count-zero}
+use Rattle.plane_core.proofs.Shared.Kids.{kid_is}
 
 -- the state 0 is none of those that are counted
 is_state-zero : (s : ℕ) → 0 < s → is_state s 0 ≡ 0
@@ -232,23 +225,26 @@ held-none rows t n f counts times =
     grind (arith, sum-replicate, length-replicate) in
     omega arith
 
-root-few : (rows : List SquareRow) → AreRows rows → tally is_any (root_of rows) ≤ 2 ^ 124
-root-few rows valid =
+root-few : (rows : List SquareRow) (f : ℕ → ℕ) → ((s : ℕ) → f s ≤ 1) → AreRows rows → tally f (root_of rows) ≤ 2 ^ 124
+root-few rows f most_one valid =
     let high : root_level rows ≤ 62 = (rooted rows valid).high in
-    let small : tally is_any (root_of rows) ≤ 2 ^ (root_level rows + root_level rows) = tally-le is_any (root_level rows) (root_of rows) (λ s. omega arith) (root-IsSquare rows valid) in
+    let small : tally f (root_of rows) ≤ 2 ^ (root_level rows + root_level rows) = tally-le f (root_level rows) (root_of rows) most_one (root-IsSquare rows valid) in
     let most : 2 ^ (root_level rows + root_level rows) ≤ 2 ^ 124 = pow_mono (let twice : root_level rows + root_level rows ≤ 124 = omega arith in twice) in
     omega arith
+
+any-few : (rows : List SquareRow) → AreRows rows → tally is_any (root_of rows) ≤ 2 ^ 124
+any-few rows valid = root-few rows is_any (λ s. omega arith) valid
 
 once : (n : ℕ) → 1 * n ≡ n
 once n = omega arith
 
 pub room-root : (rows : List SquareRow) (t : Tally) (n : ℕ) → AreRows rows → t.counts ≡ replicate 256 0 → t.times.items ≡ replicate n 0 → HasRoom rows t 1 (root_of rows)
-room-root rows t n valid counts times = grind (arith, held-none, root-few, once, length-replicate)
+room-root rows t n valid counts times = grind (arith, held-none, any-few, once, length-replicate)
 
 -- once the root is added
 pub tallied-root : (rows : List SquareRow) (t new : Tally) → AreRows rows → t.counts ≡ replicate 256 0 → t.times.items ≡ replicate (length rows) 0 → Gains rows t new 1 (root_of rows) → IsTallied rows (root_of rows) new
 tallied-root rows t new valid counts times gain =
-    grind (arith, root-few, held-none, once, get_or-replicate, length-replicate)
+    grind (arith, any-few, held-none, once, get_or-replicate, length-replicate)
 
 held-popped : (rows : List SquareRow) (t p : Tally) (n : ℕ) (f : ℕ → ℕ) → p.counts ≡ t.counts → t.times.items ≡ p.times.items ++ n ∷ [] → held rows f t ≡ held rows f p + n * tally f (row_square rows (length p.times.items))
 held-popped rows t p n f counts times =
@@ -265,40 +261,50 @@ pub tallied-more : (rows : List SquareRow) (root : Square) (t p new : Tally) (n 
     → Gains rows p new n (row_square rows (length p.times.items)) → IsTallied rows root new
 tallied-more rows root t p new n counts times is gain = grind (arith, held-popped, length_push)
 
--- a state that no live cell has
-absent : (w : World) (s : ℕ) (es : List (Place × ℕ)) → ((x y : ℤ) → 0 < cell w x y → cell w x y ≡ s → ⊥) → AllByRecursion (λ (e : Place × ℕ). (cell w e.0.1 e.0.0 ≡ e.1) × (0 < e.1)) es → count_by (λ (e : Place × ℕ). e.1 == s) es ≡ 0
-absent w s [] none known = refl
-absent w s (e ∷ es) none known =
-    let is : cell w e.0.1 e.0.0 ≡ e.1 = known.0.0 in
-    let other : e.1 ≡ s → ⊥ = λ h. none e.0.1 e.0.0 (omega arith) (is ∙ h) in
-    let test : (e.1 == s) ≡ false = ne_eqb e.1 s other in
-    sum_by-cons (λ (d : Place × ℕ). cond (d.1 == s) 1 0) e es
-    ∙ ap₂ (λ a b. a + b) (ap (λ b. cond b 1 0) test) (absent w s es none known.1)
+by-live : (xs : List ℕ) (n : ℕ) → get_or xs 0 0 ≡ 0 → by xs is_live n ≡ get_or xs n 0
+by-live xs zero none = mul-zero (get_or xs 0 0) ∙ sym none
+by-live xs (suc n) none = mul-one (get_or xs (suc n) 0)
 
-count-absent : (w : World) (s : ℕ) → ((x y : ℤ) → 0 < cell w x y → cell w x y ≡ s → ⊥) → count_of w s ≡ 0
-count-absent w s none = absent w s (live w) none (live-states w)
+-- the sum of a list that begins with 0
+sum-taken : (xs : List ℕ) (n : ℕ) → n ≤ length xs → get_or xs 0 0 ≡ 0 → sum (take n xs) ≡ sum_to (by xs is_live) n
+sum-taken xs zero h none = sym (sum-none (by xs is_live))
+sum-taken xs (suc n) h none =
+    let up : n + 1 ≡ suc n = omega arith in
+    ap (λ m. sum (take m xs)) (sym up) ∙ sum_by_more (λ x. x) xs n 0 h
+    ∙ ap₂ (λ a b. a + b) (sum-taken xs n (omega arith) none) (sym (by-live xs n none)) ∙ sym (sum-more (by xs is_live) n)
 
--- no live cell has the state 0
-pub count-zero : (w : World) → count_of w 0 ≡ 0
-count-zero w = count-absent w 0 (λ x y live e. absurd (omega (arith, live, e)))
+sum-live : (xs : List ℕ) → get_or xs 0 0 ≡ 0 → sum xs ≡ sum_to (by xs is_live) (length xs)
+sum-live xs none = ap sum (sym (take-length xs)) ∙ sum-taken xs (length xs) (omega arith) none
 
 -- the cells of the root are those of the world
-root-count : (rows : List SquareRow) (s : ℕ) → 0 < s → AreRows rows → count_of (world_of_rows rows) s ≡ cells_with s (root_of rows)
-root-count rows s live valid =
+root-total : (rows : List SquareRow) (f : ℕ → ℕ) → f 0 ≡ 0 → AreRows rows → total f (world_of_rows rows) ≡ tally f (root_of rows)
+root-total rows f none valid =
     let k = root_level rows in
-    let put = total-put_square (is_state s) k (root_of rows) (edge_of k) (edge_of k) blank (is_state-zero s live) (root-IsSquare rows valid) (λ x y h. cell-blank x y) in
-    let all : count_of (world_of_rows rows) s ≡ cells_with s (root_of rows) + total (is_state s) blank = ap (total (is_state s)) (world-root rows) ∙ put in
-    omega (arith, all, total-blank (is_state s))
+    let put = total-put_square f k (root_of rows) (edge_of k) (edge_of k) blank none (root-IsSquare rows valid) (λ x y h. cell-blank x y) in
+    omega (arith, ap (total f) (world-root rows), put, total-blank f)
 
 -- with no row left, all is counted
-pub tallied-all : (rows : List SquareRow) (t : Tally) (s : ℕ) → AreRows rows → length t.times.items ≡ 0 → IsTallied rows (root_of rows) t → s < 256 → get_or t.counts s 0 ≡ count_of (world_of_rows rows) s
-tallied-all rows t zero valid none is h = is.none ∙ sym (count-zero (world_of_rows rows))
-tallied-all rows t (suc r) valid none is h =
-    let s = suc r in
-    let f = is_state s in
+counted-all : (rows : List SquareRow) (t : Tally) (f : ℕ → ℕ) → AreRows rows → length t.times.items ≡ 0 → IsTallied rows (root_of rows) t → f 0 ≡ 0 → sum_to (by t.counts f) 256 ≡ total f (world_of_rows rows)
+counted-all rows t f valid none is zero_none =
     let w : ℕ → ℕ = λ j. tally f (row_square rows j) in
-    let state = sum-state t.counts s 256 h in
     let rest : sum_to (by t.times.items w) (length t.times.items) ≡ 0 = ap (sum_to (by t.times.items w)) none ∙ sum-none (by t.times.items w) in
-    let all = is.each f (is_state-zero s (omega arith)) in
-    let root = root-count rows s (omega arith) valid in
+    let all = is.each f zero_none in
+    let root = root-total rows f zero_none valid in
     omega arith
+
+count-all : (rows : List SquareRow) (t : Tally) (s : ℕ) → AreRows rows → length t.times.items ≡ 0 → IsTallied rows (root_of rows) t → s < 256 → get_or t.counts s 0 ≡ count_of (world_of_rows rows) s
+count-all rows t zero valid none is h = is.none ∙ sym (count-zero (world_of_rows rows))
+count-all rows t (suc r) valid none is h = sym (sum-state t.counts (suc r) 256 h) ∙ counted-all rows t (is_state (suc r)) valid none is (is_state-zero (suc r) (omega arith))
+
+pub tallied-all : (rows : List SquareRow) (t : Tally) → AreRows rows → length t.times.items ≡ 0 → IsTallied rows (root_of rows) t → AreCountsOf (world_of_rows rows) t.counts
+tallied-all rows t valid none is =
+    let live = population-total (world_of_rows rows) in
+    let whole = counted-all rows t is_live valid none is refl in
+    let few = root-few rows is_live is_live-le valid in
+    let root = root-total rows is_live refl valid in
+    record {
+      states = is.states;
+      each = λ s h. count-all rows t s valid none is h;
+      all = sum-live t.counts is.none ∙ ap (sum_to (by t.counts is_live)) is.states ∙ whole ∙ sym live;
+      few = omega arith;
+    }

@@ -1,24 +1,13 @@
 -- The live cells of a world in the order of their places.
-use Rattle.std.specs.Prelude.{◌≡◌, ℕ, zero, suc, ◌+◌, ◌-◌, ◌<◌, ◌≤◌, Bool, true, false, cond, List, [], ◌∷◌, length, map, get_or, ℤ, pos, Option, Some, unwrap_or, All, count_by, IsPermutation, IsSortedByKey}
-use Rattle.std.proofs.Common.{refl, sym, ap, ◌∙◌, ap₂, subst, arith, Less}
-use Rattle.std.proofs.lemmas.List.{get_or-map, length-map}
-use Rattle.std.proofs.lemmas.List.Elements.{All-get_or, All-weaker, recursion_from_All}
-use Rattle.std.proofs.lemmas.List.Sorted.{All-permutation, sum_by-IsPermutation}
-use Rattle.std.proofs.lemmas.List.Sums.{sum_by-cons, sum_by-take-le, count_by-le-length, count_by_more_yes}
+use Rattle.plane_core.proofs.Names.{All, All-get_or, All-permutation, All-weaker, AllByRecursion, AreLiveWithin, Bool, Bounds, Cell, Holds, IsLiveWithin, IsPermutation, IsSortedByKey, Less, List, Option, Place, Some, World, [], ap, ap₂}
+use Rattle.plane_core.proofs.Names.{arith, as_live, blank, by_place, cell, cell-blank, cell-put, cond, count_at, count_by, count_by-le-length, count_by_more_yes, entries-blank, false, get_or, get_or-map, is_eq, is_lt, length, length-map}
+use Rattle.plane_core.proofs.Names.{live, live-entries, map, of_cell, ordering_reverse, place_cmp, place_of, places_total, pos, put, put-suc, recursion_from_All, refl, same_place, same_place-itself, same_world, state_at, subst, suc}
+use Rattle.plane_core.proofs.Names.{sum_by-IsPermutation, sum_by-cons, sum_by-take-le, sym, true, unwrap_or, zero, ℕ, ℤ, ◌+◌, ◌-◌, ◌<◌, ◌∙◌, ◌∷◌, ◌≡◌, ◌≤◌}
 use Rattle.std.proofs.lemmas.Map.Keys.{sorted_from_all_adjacent}
-use Rattle.std.specs.List.{AllByRecursion}
 use Rattle.std.specs.List.Sorted.{IsStrictlySortedBy}
 use Rattle.std.specs.Map.{keys_of, lookup}
-use Rattle.std.specs.Ordering.{is_eq, is_lt, ordering_reverse}
 use Rattle.std.specs.declared.cmp.Ordering.{Ordering}
 use Rattle.std.specs.FinMap as map
-use Rattle.std.specs.FinMap.Entries.{by_order}
-use Rattle.worlds.specs.declared.cell.Bounds.{Bounds}
-use Rattle.worlds.specs.declared.cell.Cell.{Cell}
-use Rattle.worlds.specs.World.{World, Place, place_cmp, same_place, same_place-itself, cell, put, blank, cell-put, cell-blank, same_world, places_total, put-suc, entries-blank}
-use Rattle.worlds.specs.Live.{live, as_live, live-entries, of_cell, place_of, state_at, by_place}
-use Rattle.worlds.specs.Range.{Holds}
-use Rattle.plane_core.specs.Within.{IsLiveWithin, AreLiveWithin, count_at}
 
 -- the world in which each cell has the state of its first mention in the list
 pub world_of : List (Place × ℕ) → World

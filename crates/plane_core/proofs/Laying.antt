@@ -1,35 +1,17 @@
 -- Cells laid on squares.
-use Rattle.std.proofs.Common.{◌≡◌, ℕ, zero, suc, ◌+◌, ◌-◌, ◌<◌, ◌≤◌, ◌^◌, false, cond, List, [], ◌∷◌, ◌++◌, length, get_or, take, Bor, refl, sym, ap, ap₂, ◌∙◌, subst, subst₂, arith, inl, inr, ◌⊎◌, ℤ, pos, ◌+ℤ◌, ◌≤ℤ◌, ◌<ℤ◌}
-use Rattle.std.specs.Prelude.{◌↔◌, All, Bool, IsTrue, map}
-use Rattle.std.specs.List.{range_with_len}
-use Rattle.std.proofs.lemmas.Bool.{both_ways, cond-false, cond_both, false_from_ne_true}
-use Rattle.std.proofs.lemmas.Grind.{flat_map-append}
-use Rattle.std.proofs.lemmas.Int.{ints}
-use Rattle.std.proofs.lemmas.List.{append_assoc, append-nil, take_more}
-use Rattle.std.proofs.lemmas.List.FromFn.{map-range_with_len_more}
-use Rattle.std.proofs.lemmas.List.Elements.{All-nil, All-cons, All-append, All-head, All-tail}
+use Rattle.plane_core.proofs.Names.{AddsTouching, All, All-append, All-cons, All-head, All-nil, All-tail, AreLaidStates, AreQuadrants, AreRows, AreStatesOf, AreThoseIn, Bool, Bor, CanBeDrawn, Covers, IsAdded, IsIn, IsLaid, IsMade, IsNamed}
+use Rattle.plane_core.proofs.Names.{IsNumber, IsPart, IsQuadrant, IsRoot, IsTrue, Keeps, LiesIn, List, Part, Place, Shows, Span, Square, SquareRow, Touches, World, [], ap, append-nil, append_assoc, ap₂, arith, both_ways, cell, cell-lay}
+use Rattle.plane_core.proofs.Names.{cell-put, cell_in, cell_of, cells_of_span, cells_of_spans, cond, cond-false, cond_both, drawn, east, edge_of, false, false_from_ne_true, flat_map-append, get_or, inl, inr, ints, is_same, last_mention}
+use Rattle.plane_core.proofs.Names.{lay, lay-append, lay-push, length, map, map-range_with_len_more, pos, quadrant_of, range_with_len, refl, renumbered, root_level, same_is, same_place, same_world, south, spans_of_runs, square_in}
+use Rattle.plane_core.proofs.Names.{square_of, subst, subst₂, suc, sym, take, take_more, world_of_rows, zero, ℕ, ℤ, ◌++◌, ◌+ℤ◌, ◌+◌, ◌-◌, ◌<ℤ◌, ◌<◌, ◌^◌, ◌↔◌, ◌∙◌, ◌∷◌, ◌≡◌, ◌≤ℤ◌, ◌≤◌, ◌⊎◌}
 use Rattle.worlds.specs.declared.cell.CellSet.{CellSet}
-use Rattle.worlds.specs.World.{Place, World, cell, cell-put, same_place, same_world}
-use Rattle.worlds.specs.Fill.{same_is, is_same}
-use Rattle.worlds.specs.Lay.{lay, lay-append, lay-push, last_mention, cell-lay}
-use Rattle.worlds.specs.Square.{Square, cell_in, IsIn}
-use Rattle.plane_core.specs.declared.row.SquareRow.{SquareRow}
-use Rattle.plane_core.specs.declared.part.Part.{Part}
 use Rattle.plane_core.specs.declared.part.Spot.{Spot}
-use Rattle.plane_core.specs.declared.span.Span.{Span}
-use Rattle.plane_core.specs.Rows.{AreRows, IsNumber, square_in, root_level, edge_of, world_of_rows}
-use Rattle.plane_core.specs.Part.{Covers, IsPart, IsQuadrant, IsRoot, Shows, east, south}
-use Rattle.plane_core.specs.Spans.{CanBeDrawn, Holds, cell_of, cells_of_span, cells_of_spans, drawn}
-use Rattle.plane_core.specs.Laid.{square_of, AreQuadrants, Keeps, IsAdded, AddsTouching, AreThoseIn, AreLaidStates, AreStatesOf, IsLaid, IsMade, IsNamed, LiesIn, Touches, spans_of_runs, quadrant_of, renumbered}
+use Rattle.plane_core.specs.Spans.{Holds}
 use Rattle.plane_core.proofs.Shared.Sound.{IsNumber-from, zero-IsNumber}
 use Rattle.plane_core.proofs.Shared.Cells.{in_or_out, offsets}
 use Rattle.plane_core.proofs.Shared.Roots.{world-outside, root-cells, root-side}
 use Rattle.plane_core.proofs.Shared.Adding.{Keeps-none, Keeps-then, quadrants-none, quadrants-row, root_added}
 use Rattle.plane_core.proofs.Parts.{moved, in_quadrant, east-le, south-le, quadrant-cell, quadrant-split, root-outside, shows-one, state-cell}
-
--- the place of a cell inside a square isn't one outside
-pub other_place : (n : ℕ) (l t x y x' y' : ℤ) → IsIn n l t x y → (IsIn n l t x' y' → ⊥) → same_place (y, x) (y', x') ≡ false
-other_place n l t x y x' y' here out = grind (arith, ints, false_from_ne_true, same_is)
 
 -- nor the other way round
 pub outer_place : (n : ℕ) (l t x y x' y' : ℤ) → (IsIn n l t x y → ⊥) → IsIn n l t x' y' → same_place (y, x) (y', x') ≡ false
@@ -99,10 +81,6 @@ drawn-outside (s ∷ a) w x y out =
 -- what touches no square holds none of its cells
 apart : (p : Part) (s : Span) (x y : ℤ) → (Touches p s → ⊥) → Covers p x y → Holds s x y → ⊥
 apart p s x y far covers holds = far (record { top = omega (arith, ints); bottom = omega (arith, ints); left = omega (arith, ints); right = omega (arith, ints) })
-
--- none yet
-pub those-none : (p : Part) → AreThoseIn p [] []
-those-none p = record { range = All-nil CanBeDrawn; same = λ w x y covers. refl }
 
 -- spans that are kept
 pub those-kept : (p : Part) (ss here run : List Span) → All CanBeDrawn run → AreThoseIn p ss here → AreThoseIn p (ss ++ run) (here ++ run)
@@ -276,10 +254,6 @@ laid-block rows new p kids states n spans is one few parts laid made =
     ∙ shows.cells (east (2 ^ (p.level - 1)) r + 0) (south (2 ^ (p.level - 1)) r + 0) (omega arith) (omega arith)
     ∙ block-state rows p kids r one parts hr) q hq))
     (subst (λ k. IsMade rows new k n (square_of rows (k - 1) states)) (sym one) made)
-
--- a row that is added is made
-pub added-made : (old new : List SquareRow) (k n : ℕ) (s : Square) → IsAdded old new k n s → IsMade old new k n s
-added-made old new k n s added = record { keeps = added.keeps; number = added.number; square = added.square }
 
 -- the row of an empty square
 pub made-empty : (rows : List SquareRow) (k : ℕ) (kids : List ℕ) → AreRows rows → length rows < 2 ^ 32 → 1 ≤ k → kids ≡ 0 ∷ 0 ∷ 0 ∷ 0 ∷ [] → IsMade rows rows k 0 (square_of rows (k - 1) kids)

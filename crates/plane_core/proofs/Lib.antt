@@ -1,6 +1,7 @@
 pub mod Shared
 pub mod Totals
-pub mod Overlays
+pub mod Bands
+pub mod Measured
 pub mod Counting
 pub mod Walking
 pub mod Laying
@@ -11,3 +12,4 @@ pub mod Entries
 pub mod Written
 pub mod Parts
 pub mod Boxed
+pub mod Names

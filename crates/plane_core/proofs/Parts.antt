@@ -1,15 +1,6 @@
 -- Squares that stand at places of a world, and their quadrants.
-use Rattle.std.proofs.Common.{◌≡◌, ℕ, suc, ◌+◌, ◌-◌, ◌<◌, ◌≤◌, ◌^◌, cond, List, length, sym, ap, ap₂, ◌∙◌, subst, arith, inl, inr, pow_mono, ℤ, pos, ◌+ℤ◌}
-use Rattle.std.specs.Prelude.{int_le}
-use Rattle.std.proofs.lemmas.Bool.{cases_lt}
-use Rattle.std.proofs.lemmas.Grind.{common_steps}
-use Rattle.std.proofs.lemmas.Int.{ints}
-use Rattle.worlds.specs.World.{World, cell}
-use Rattle.worlds.specs.Square.{Square, four, cell_in, IsIn}
-use Rattle.plane_core.specs.declared.row.SquareRow.{SquareRow}
-use Rattle.plane_core.specs.declared.part.Part.{Part}
-use Rattle.plane_core.specs.Rows.{IsNumber, AreRows, square_in, row_at, kid, root_level, edge_of, world_of_rows}
-use Rattle.plane_core.specs.Part.{Covers, IsPart, Shows, IsKid, IsQuadrant, IsRoot, east, south, quadrant_at}
+use Rattle.plane_core.proofs.Names.{AreRows, Covers, IsIn, IsKid, IsNumber, IsPart, IsQuadrant, IsRoot, List, Part, Shows, Square, SquareRow, World, ap, ap₂, arith, cases_lt, cell, cell_in, common_steps, cond, east, edge_of, four, inl, inr}
+use Rattle.plane_core.proofs.Names.{int_le, ints, kid, length, pos, pow_mono, quadrant_at, root_level, row_at, south, square_in, subst, suc, sym, world_of_rows, ℕ, ℤ, ◌+ℤ◌, ◌+◌, ◌-◌, ◌<◌, ◌^◌, ◌∙◌, ◌≡◌, ◌≤◌}
 use Rattle.plane_core.proofs.Shared.Cells.{cell_in-nw, cell_in-ne, cell_in-sw, cell_in-se, cell_in-empty, cell_in-one, offsets}
 use Rattle.plane_core.proofs.Shared.Roots.{root-cells, root-side, rooted, root-Fits}
 use Rattle.plane_core.proofs.Shared.Sound.{each_of_four, square_in-number, square_in-none, square_in-state, zero-IsNumber, number-kid}

@@ -3,7 +3,7 @@ pub mod Adding
 pub mod Cells
 pub mod Centres
 pub mod Centring
-pub mod Measuring
+pub mod Kids
 pub mod Numbering
 pub mod Roots
 pub mod Sound

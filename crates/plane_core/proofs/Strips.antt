@@ -1,13 +1,8 @@
 -- Strips of squares, and the number of each square.
-use Rattle.std.proofs.Common.{None, Some, ◌≡◌, ℕ, ◌+◌, ◌-◌, ◌<◌, ◌≤◌, ◌^◌, ◌⊎◌, ◌==◌, Bool, true, false, List, [], ◌∷◌, ◌++◌, length, get_or, take, drop, refl, sym, ap, ◌∙◌, subst, arith, inl, inr, add-one, drop-cons, length-drop}
-use Rattle.std.proofs.lemmas.List.{take_all, drop_all}
-use Rattle.std.specs.List.{slice_get}
-use Rattle.std.specs.Prelude.{◌&&◌, nat_le}
-use Rattle.std.proofs.lemmas.Bool.{cond-true, cond-false}
-use Rattle.std.proofs.lemmas.Bool.Decides.{nat_tests}
-use Rattle.std.proofs.lemmas.List.Elements.{All-nil, All-cons, All-append, All-head, All-tail}
-use Rattle.plane_core.specs.declared.strip.Strip.{Strip}
-use Rattle.plane_core.specs.Strips.{IsOnward, IsBefore, IsBehind, ends_before, number_at, AreAhead, AreLeft, IsReach, IsOutOfRow, AreBefore, AreExtended}
+use Rattle.plane_core.proofs.Names.{All-append, All-cons, All-head, All-nil, All-tail, AreBefore, AreExtended, AreLeft, Bool, IsBefore, IsBehind, IsOnward, IsOutOfRow, IsReach, List, None, Some, Strip, [], add-one, ap, arith, cond-false}
+use Rattle.plane_core.proofs.Names.{cond-true, drop, drop-cons, drop_all, ends_before, false, get_or, inl, inr, length, length-drop, nat_le, nat_tests, refl, slice_get, subst, sym, take, take_all, true, ℕ, ◌&&◌, ◌++◌, ◌+◌, ◌-◌, ◌<◌, ◌==◌}
+use Rattle.plane_core.proofs.Names.{◌^◌, ◌∙◌, ◌∷◌, ◌≡◌, ◌≤◌, ◌⊎◌}
+use Rattle.plane_core.specs.Strips.{number_at, AreAhead}
 
 -- what the test says
 pub before-true : (s : Strip) (x y : ℕ) → ends_before s x y ≡ true → IsBefore s x y

@@ -1,17 +1,12 @@
 -- Sums over the live cells of a world, and what a square that is put there adds.
-use Rattle.std.proofs.Common.{◌≡◌, ℕ, zero, suc, ◌+◌, ◌*◌, ◌≤◌, ◌^◌, cond, List, [], ◌∷◌, map, length, Option, None, Some, refl, sym, ap, ◌∙◌, arith, zero-add, pow-suc, ℤ, pos, ◌+ℤ◌}
-use Rattle.std.specs.List.{sum_by}
+use Rattle.plane_core.proofs.Names.{IsIn, List, None, Option, Place, Some, Square, World, [], ap, arith, as_live, blank, cell, cell-get, cell-put, cond, entries-blank, four, ints, is_eq, is_live, length, live, live-entries, map, one}
+use Rattle.plane_core.proofs.Names.{place_cmp, places_exact, places_total, population, pos, pow-suc, put, put-suc, put_square, refl, same_world, state_of, suc, sum_by, sum_by-cons, sym, tally, zero, zero-add, ℕ, ℤ, ◌*◌, ◌+ℤ◌, ◌+◌, ◌^◌, ◌∙◌}
+use Rattle.plane_core.proofs.Names.{◌∷◌, ◌≡◌, ◌≤◌}
 use Rattle.std.specs.declared.cmp.Ordering.TheVariants.{Less, Equal, Greater}
-use Rattle.std.proofs.lemmas.Int.{ints}
-use Rattle.std.proofs.lemmas.List.Sums.{sum_by-cons}
 use Rattle.std.proofs.lemmas.Map.Views.{tells_apart}
 use Rattle.std.specs.FinMap as finite
 use Rattle.std.specs.FinMap.Entries.{by_order, find}
-use Rattle.std.specs.Ordering.{is_eq}
-use Rattle.worlds.specs.World.{World, Place, place_cmp, cell, cell-get, put, blank, cell-put, same_world, state_of, places_total, places_exact, put-suc, entries-blank}
-use Rattle.worlds.specs.Live.{live, as_live, live-entries, population}
-use Rattle.worlds.specs.Square.{Square, one, four, empty_square, IsSquare, put_square, IsIn}
-use Rattle.plane_core.specs.Counts.{tally, is_live}
+use Rattle.worlds.specs.Square.{empty_square, IsSquare}
 use Rattle.plane_core.proofs.Shared.Cells.{double, put_square-outside, put_square-four, put_square-one, in_part}
 
 -- the sum of f over the states of the live cells
@@ -140,6 +135,9 @@ sums-live_ones (e ∷ es) = omega (arith, sums-live_ones es)
 -- the population is the sum of ones
 pub population-total : (w : World) → population w ≡ total is_live w
 population-total w = ap (λ (es : List (Place × ℕ)). length es) (live-entries w) ∙ sums-live_ones (finite.entries w) ∙ sym (total-sums is_live w)
+
+pub population-blank : population blank ≡ 0
+population-blank = population-total blank ∙ total-blank is_live
 
 pub is_live-le : (s : ℕ) → is_live s ≤ 1
 is_live-le s = grind (arith)

@@ -1,13 +1,7 @@
 -- A walk over rows, step by step.
-use Rattle.std.proofs.Common.{◌≡◌, ℕ, zero, suc, ◌-◌, ◌<◌, ◌^◌, List, length, get_or, Option, Some, None, sym, ◌∙◌, subst, arith, inl, inr, get_or-set_same, get_or-set_other}
-use Rattle.std.proofs.lemmas.Bool.{cases_eq}
+use Rattle.plane_core.proofs.Names.{Has, IsNumber, List, None, Numbered, Option, Remembers, Some, Square, SquareRow, Walks, arith, cases_eq, get_or, get_or-set_other, get_or-set_same, inl, inr, kid, length, length-set, no_row, number_row}
+use Rattle.plane_core.proofs.Names.{row_at, same_Some, square_in, subst, suc, sym, zero, ℕ, ◌-◌, ◌<◌, ◌^◌, ◌∙◌, ◌≡◌}
 use Rattle.std.proofs.Math.ListN.{set}
-use Rattle.std.proofs.lemmas.List.{length-set}
-use Rattle.std.proofs.lemmas.Option.{same_Some}
-use Rattle.plane_core.specs.declared.row.SquareRow.{SquareRow}
-use Rattle.worlds.specs.Square.{Square}
-use Rattle.plane_core.specs.Rows.{Numbered, number_row, square_in, IsNumber, kid, no_row, row_at}
-use Rattle.plane_core.specs.Walks.{Has, Walks, Remembers}
 use Rattle.plane_core.proofs.Shared.Numbering.{Grows, Has-grown, Has-again, number_row-grows}
 use Rattle.plane_core.proofs.Shared.Sound.{IsNumber-level, square_in-number, row_of, walks-quadrants}
 

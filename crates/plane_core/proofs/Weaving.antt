@@ -1,23 +1,10 @@
 -- The world whose squares are woven from the strips of spans.
-use Rattle.std.proofs.Common.{Option, None, Some, ◌≡◌, ℕ, zero, suc, ◌+◌, ◌-◌, ◌*◌, ◌<◌, ◌≤◌, ◌^◌, List, [], ◌∷◌, ◌++◌, length, get_or, refl, sym, ap, ap₂, ◌∙◌, subst, arith, inl, inr, pow-suc, lit<, pos, neg_ℤ, ◌+ℤ◌}
-use Rattle.std.specs.Prelude.{All, IfSome}
-use Rattle.std.proofs.lemmas.Int.{ints}
+use Rattle.plane_core.proofs.Names.{All, All-nil, AreBefore, AreExtended, AreMade, AreRowsOf, AreStripsOf, AreWoven, CanBeDrawn, Covers, HasSquare, IfSome, IsAdded, IsBefore, IsOnward, IsRoot, IsStripOf, LiesIn, List, None, Option, Part}
+use Rattle.plane_core.proofs.Names.{Some, Span, Square, SquareRow, Strip, World, [], ap, append-nil, ap₂, arith, blank, cell, cell-blank, cell_at, cell_in, cells_of_span, drawn, edge_of, four, get_or, inl, inr, ints, lay, length, lit<}
+use Rattle.plane_core.proofs.Names.{neg_ℤ, number_at, one, pos, pow-suc, refl, root_level, root_of, same_world, square_at, square_in, square_of, subst, suc, sym, zero, ℕ, ◌*◌, ◌++◌, ◌+ℤ◌, ◌+◌, ◌-◌, ◌<◌, ◌^◌, ◌∙◌, ◌∷◌, ◌≡◌, ◌≤◌}
 use Rattle.std.proofs.lemmas.Nat.{pow_pos}
-use Rattle.std.proofs.lemmas.List.{append-nil}
-use Rattle.std.proofs.lemmas.List.Elements.{All-nil}
-use Rattle.worlds.specs.World.{World, blank, cell, cell-blank, same_world}
-use Rattle.worlds.specs.Lay.{lay}
-use Rattle.worlds.specs.Square.{Square, one, four, cell_in, square_at}
-use Rattle.plane_core.specs.declared.part.Part.{Part}
-use Rattle.plane_core.specs.declared.row.SquareRow.{SquareRow}
-use Rattle.plane_core.specs.declared.span.Span.{Span}
-use Rattle.plane_core.specs.declared.strip.Strip.{Strip}
-use Rattle.plane_core.specs.Rows.{edge_of, root_level, root_of, square_in}
-use Rattle.plane_core.specs.Part.{Covers, IsRoot}
-use Rattle.plane_core.specs.Spans.{CanBeDrawn, Holds, cells_of_span, drawn}
-use Rattle.plane_core.specs.Laid.{IsAdded, LiesIn, square_of}
-use Rattle.plane_core.specs.Strips.{AreBefore, AreExtended, IsBefore, IsOnward, number_at}
-use Rattle.plane_core.specs.Woven.{AreMade, AreRowsOf, AreStripsOf, AreWoven, HasSquare, IsStripOf, cell_at, kids_at, start}
+use Rattle.plane_core.specs.Spans.{Holds}
+use Rattle.plane_core.specs.Woven.{kids_at, start}
 use Rattle.plane_core.proofs.Laying.{drawn-append, drawn-outside, holds_or_not, out_of_reach, span-inside, span-outside}
 use Rattle.plane_core.proofs.Shared.Adding.{root_added}
 use Rattle.plane_core.proofs.Shared.Cells.{double, in_or_out, offsets, square_at-cells, square_at-suc, square_at-zero}

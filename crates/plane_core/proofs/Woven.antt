@@ -1,16 +1,8 @@
 -- Squares that are made of strips of the level below.
-use Rattle.std.proofs.Common.{Some, Bool, true, false, ◌≡◌, ℕ, suc, ◌+◌, ◌-◌, ◌*◌, ◌/◌, ◌<◌, ◌≤◌, ◌^◌, ◌⊎◌, List, [], ◌∷◌, length, get_or, sym, ap, ◌∙◌, subst, arith, inl, inr}
-use Rattle.std.proofs.lemmas.Bool.{cases_lt}
-use Rattle.std.proofs.lemmas.List.Elements.{All-nil}
-use Rattle.std.specs.List.{slice_get}
-use Rattle.worlds.specs.Square.{Square}
-use Rattle.plane_core.specs.declared.row.SquareRow.{SquareRow}
-use Rattle.plane_core.specs.declared.strip.Strip.{Strip}
-use Rattle.plane_core.specs.Rows.{IsNumber, IsRow, AreRows, kid}
-use Rattle.plane_core.specs.Laid.{Keeps, IsMade, square_of}
-use Rattle.plane_core.specs.Strips.{IsOnward, IsEarlier, IsBefore, number_at, AreAhead, AreLeft, IsReach, IsOutOfRow, AreBefore, AreExtended}
-use Rattle.plane_core.specs.Woven.{sides_at, kids_at, IsPair, AreNumbers, AreMadeTo, AreMade}
-use Rattle.plane_core.proofs.Shared.Adding.{Keeps-none, Keeps-then, quadrants-none, square_of-kept}
+use Rattle.plane_core.proofs.Names.{AreAhead, AreBefore, AreExtended, AreLeft, AreMade, AreMadeTo, AreNumbers, Bool, IsEarlier, IsMade, IsNumber, IsOnward, IsOutOfRow, IsPair, IsReach, IsRow, Keeps, List, Some, Square, SquareRow, Strip, []}
+use Rattle.plane_core.proofs.Names.{ap, arith, cases_lt, false, get_or, inl, inr, kid, number_at, sides_at, slice_get, square_of, subst, suc, sym, true, ℕ, ◌*◌, ◌+◌, ◌-◌, ◌/◌, ◌<◌, ◌^◌, ◌∙◌, ◌∷◌, ◌≡◌, ◌≤◌, ◌⊎◌}
+use Rattle.plane_core.specs.Woven.{kids_at}
+use Rattle.plane_core.proofs.Shared.Adding.{Keeps-then, quadrants-none, square_of-kept}
 use Rattle.plane_core.proofs.Shared.Sound.{each_of_four, square_in-none, zero-IsNumber}
 use Rattle.plane_core.proofs.Strips.{AreSameFrom, number-gone, number-short, number-none, by_first, first_some, ahead-first, all-onward}
 
@@ -217,14 +209,6 @@ module _ (strips north south : List Strip) (x y : ℕ) (left_n : AreSameFrom str
     keeps = to.keeps;
     each = λ i j. made-rest old rows level made (2 * j + 2) i j low to (λ a b up down. ap (λ (l : List Strip). number_at l a b) empty ∙ number-none a b) (omega arith);
   }
-
--- nothing is made yet
-pub made-start : (rows : List SquareRow) (level : ℕ) (strips : List Strip) → AreRows rows → length rows < 2 ^ 32 → AreMadeTo rows rows level strips [] 0 0
-made-start rows level strips valid few = record {
-  keeps = Keeps-none rows valid few;
-  each = λ i j h. let r = h.row in let c = h.column in let no : ⊥ = grind (arith) in absurd no;
-  before = All-nil (λ s. IsBefore s 0 0);
-}
 
 -- a test has one answer
 pub one_answer : (v r : Bool) → v ≡ r → r ≡ true → v ≡ false → ⊥

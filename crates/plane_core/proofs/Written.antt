@@ -1,9 +1,7 @@
 -- The rows that a plane keeps, and those that are written of it.
-use Rattle.std.proofs.Common.{◌≡◌, refl, ℕ, List, [], ◌∷◌, get_or, ◌∙◌, arith}
-use Rattle.worlds.specs.World.{World}
+use Rattle.plane_core.proofs.Names.{AreCanonical, AreKept, AreSquaresOf, IsRow, List, SquareRow, World, [], arith, completed, empty_row, get_or, refl, root_of, written, ℕ, ◌∙◌, ◌∷◌, ◌≡◌}
 use Rattle.worlds.specs.Square.{empty_square}
-use Rattle.plane_core.specs.declared.row.SquareRow.{SquareRow}
-use Rattle.plane_core.specs.Rows.{AreCanonical, AreKept, AreSquaresOf, IsRow, completed, empty_row, number_row, number_square, root_level, root_of, square_in, world_of_rows, written}
+use Rattle.plane_core.specs.Rows.{number_row, number_square, root_level, square_in, world_of_rows}
 use Rattle.plane_core.proofs.Shared.Sound.{IsNumber-state}
 
 -- what is written stands for the same world

@@ -3,7 +3,7 @@ pub mod Spans
 pub mod Part
 pub mod Walks
 pub mod Centre
-pub mod Measures
+pub mod Measured
 pub mod Laid
 pub mod Strips
 pub mod Woven
@@ -12,3 +12,4 @@ pub mod WorldRows
 pub mod Laws
 pub mod Within
 pub mod SharedRows
+pub mod Edges

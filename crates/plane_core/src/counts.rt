@@ -2,10 +2,10 @@
 //!
 //! The square of a row stands in the pattern as often as those that have it as a quadrant do, all
 //! together. So the rows are gone over from the root down, each behind all that name it.
-ghost use Rattle.std.specs.Prelude.{◌≡◌, ℕ, ◌+◌, ◌<◌, ◌≤◌, ◌^◌, length, slice_index, IfOk};
-ghost use Rattle.worlds.specs.Live.{count_of};
+ghost use Rattle.std.specs.Prelude.{◌<◌, ◌≤◌, ◌^◌, length, IfOk};
 ghost use Rattle.plane_core.specs.Rows.{AreRows, IsNumber, square_in, world_of_rows};
 ghost use Rattle.plane_core.specs.Counts.{Gains, HasRoom, row_square};
+ghost use Rattle.plane_core.specs.Measured.{AreCountsOf, IsLastCounted};
 
 use crate::part::root_level;
 use crate::row::SquareRow;
@@ -56,8 +56,7 @@ fn add_quadrants(rows: &[SquareRow], tally: &mut Tally, times: u128)
 pub fn counts(alloc: Global, rows: &[SquareRow]) -> Result<[u128; 256], AllocError>
     requires rows { AreRows rows.now }
     requires few { length rows.now < 2 ^ 32 }
-    ensures { IfOk result (λ counts. (s : ℕ) → s < 256 →
-        slice_index counts s ≡ count_of (world_of_rows rows.now) s) }
+    ensures { IfOk result (AreCountsOf (world_of_rows rows.now)) }
 {
     let mut tally = Tally {
         counts: [0; 256],
@@ -68,4 +67,15 @@ pub fn counts(alloc: Global, rows: &[SquareRow]) -> Result<[u128; 256], AllocErr
         add_quadrants(rows, &mut tally, times);
     }
     Ok(tally.counts)
+}
+
+/// The last state that is counted, 0 where none behind it is.
+pub fn greatest_counted(counts: &[u128; 256]) -> u8
+    ensures { IsLastCounted counts.now result }
+{
+    let mut state = u8::MAX;
+    while state > 0 && counts[state as usize] == 0 {
+        state -= 1;
+    }
+    state
 }

@@ -6,13 +6,13 @@
 //! are canonical: a world has one list of them, so planes with equal cells have equal rows.
 //!
 //! `from_squares` makes any rows canonical in a walk that sees each row once, and in a second where
-//! a smaller root does, and measures them in one more pass, so that `population`, `greatest` and
-//! `bounds` are there. `get` is one descent of at most 62 levels, and `equals` compares rows. `lay`
-//! adds a row for each square that holds a laid cell, at most 62 a cell, and makes the rows canonical
-//! again. `from_spans` takes cells side by side at once, weaves those in reading order to squares from
-//! the bottom up, and lets their list go before that. `cells_within` descends to each live cell in its
-//! box once, `live` sorts what it finds without one, and `counts` takes one pass over the rows from
-//! the root down.
+//! a smaller root does. It counts the cells of each state in one pass over the rows from the root
+//! down, and finds the bounds, so that `counts` and `bounds` are there, and `population` and
+//! `greatest` are read off the counts. `get` is one descent of at most 62 levels, and `equals`
+//! compares rows. `lay` adds a row for each square that holds a laid cell, at most 62 a cell, and
+//! makes the rows canonical again. `from_spans` takes cells side by side at once, weaves those in
+//! reading order to squares from the bottom up, and lets their list go before that. `cells_within`
+//! descends to each live cell in its box once, and `live` sorts what it finds without one.
 //!
 //! The crate hands on what `worlds` declares of cells, rules and stops. `Loaded` is a pattern as a
 //! file holds it.
@@ -22,11 +22,11 @@ mod canonical;
 mod centre;
 mod counts;
 mod descent;
+mod edges;
 mod laws;
 mod lay;
 mod live;
 mod loaded;
-mod measures;
 mod part;
 mod plane;
 mod raise;

@@ -10,13 +10,13 @@ ghost use Rattle.plane_core.specs.Walks.{AreWalked};
 ghost use Rattle.plane_core.specs.Within.{AreLiveWithin};
 
 use crate::canonical::{canonical, written};
-use crate::counts::counts;
+use crate::counts::{counts, greatest_counted};
 use crate::descent::state_at;
+use crate::edges::bounds_of;
 use crate::lay::lay_rows;
 use crate::live::live_cells;
-use crate::measures::{Measures, measured, no_measures};
 use crate::part::Spot;
-use crate::row::SquareRow;
+use crate::row::{SquareRow, are_same};
 use crate::shared_rows::SharedRows;
 use crate::span::{Span, spans_of};
 use crate::walk::walked;
@@ -35,7 +35,10 @@ use worlds::{Bounds, Cell, CellSet};
 #[derive(Drop)]
 pub struct Plane {
     rows: SharedRows,
-    measures: Measures,
+    // By state, how many live cells have it.
+    counts: [u128; 256],
+    // The least box that holds the live cells.
+    bounds: Option<Bounds>,
     alloc: Global,
 }
 
@@ -43,7 +46,7 @@ impl Model for Plane {
     ghost use Rattle.std.specs.Prelude.{◌<◌, ◌^◌, length};
     ghost use Rattle.worlds.specs.World.{World, coded_world};
     ghost use Rattle.plane_core.specs.Rows.{world_of_rows, AreKept};
-    ghost use Rattle.plane_core.specs.Measures.{AreMeasuresOf};
+    ghost use Rattle.plane_core.specs.Measured.{AreMeasuredOf};
 
     ghost Value = { World };
 
@@ -51,7 +54,7 @@ impl Model for Plane {
 
     ghost view = { λ p. world_of_rows p.rows };
 
-    ghost invariant = { λ p. AreKept p.rows × (length p.rows < 2 ^ 32) × AreMeasuresOf (world_of_rows p.rows) p.measures };
+    ghost invariant = { λ p. AreKept p.rows × (length p.rows < 2 ^ 32) × AreMeasuredOf (world_of_rows p.rows) p.counts p.bounds };
 }
 
 impl Plane {
@@ -61,7 +64,8 @@ impl Plane {
     {
         Plane {
             rows: SharedRows::none(),
-            measures: no_measures(),
+            counts: [0; 256],
+            bounds: None,
             alloc,
         }
     }
@@ -88,10 +92,12 @@ impl Plane {
         }
         let mut rows = canonical(alloc, rows)?;
         rows.shrink_to_fit();
-        let measures = measured(alloc, &rows)?;
+        let counts = counts(alloc, &rows)?;
+        let bounds = bounds_of(alloc, &rows)?;
         Ok(Plane {
             rows: SharedRows::of(alloc, rows)?,
-            measures,
+            counts,
+            bounds,
             alloc,
         })
     }
@@ -110,7 +116,8 @@ impl Plane {
     {
         Ok(Plane {
             rows: self.rows.share()?,
-            measures: self.measures,
+            counts: self.counts,
+            bounds: self.bounds,
             alloc: self.alloc,
         })
     }
@@ -151,7 +158,7 @@ impl Plane {
     pub fn population(&self) -> u128
         ensures { result ≡ population self.now }
     {
-        self.measures.population
+        self.counts.iter().sum()
     }
 
     /// The live cells row by row from the top, and in a row from the left; None where there are
@@ -179,7 +186,7 @@ impl Plane {
     pub fn greatest(&self) -> u8
         ensures { IsGreatest self.now result }
     {
-        self.measures.greatest
+        greatest_counted(&self.counts)
     }
 
     /// The least box that holds the live cells, None where no cell is live.
@@ -188,7 +195,7 @@ impl Plane {
         ensures some { IfSome result (λ b. IsBoundingBox b self.now) }
         ensures in_range { HasMargin 0 self.now }
     {
-        self.measures.bounds
+        self.bounds
     }
 
     /// How many live cells have each state, by state; the first count, that of the state 0, is 0.
@@ -196,13 +203,13 @@ impl Plane {
         ensures { IfOk result (λ counts.
             (s : ℕ) → s < 256 → slice_index counts s ≡ count_of self.now s) }
     {
-        counts(self.alloc, self.rows.as_slice())
+        Ok(self.counts)
     }
 
     /// Whether the cells are the same.
     pub fn equals(&self, other: &Plane) -> bool
         ensures { IsTrue result ↔ (self.now ≡ other.now) }
     {
-        self.rows.as_slice() == other.rows.as_slice()
+        are_same(self.rows.as_slice(), other.rows.as_slice())
     }
 }

@@ -1,13 +1,7 @@
 -- Rows that come behind others, and the root of one level more.
-use Rattle.std.proofs.Common.{◌≡◌, ℕ, zero, suc, ◌+◌, ◌-◌, ◌<◌, ◌≤◌, ◌^◌, List, [], ◌∷◌, ◌++◌, length, get_or, slice_set, refl, sym, subst, arith, Result}
-use Rattle.std.specs.Prelude.{IfOk}
-use Rattle.std.proofs.lemmas.Result.{IfOk-weaker}
-use Rattle.std.proofs.lemmas.List.{length_push, get_or_push}
-use Rattle.plane_core.specs.declared.row.SquareRow.{SquareRow}
-use Rattle.worlds.specs.Square.{Square, four, empty_square}
-use Rattle.plane_core.specs.Rows.{row_at, kid, IsNumber, IsRow, AreRows, square_in, root_level}
-use Rattle.plane_core.specs.Centre.{cornered, centred}
-use Rattle.plane_core.specs.Laid.{square_of, AreQuadrants, Keeps, IsAdded, IsRaised}
+use Rattle.plane_core.proofs.Names.{AreQuadrants, AreRows, IfOk, IfOk-weaker, IsAdded, IsNumber, IsRaised, IsRow, Keeps, List, Result, Square, SquareRow, [], arith, centred, cornered, four, get_or, get_or_push, kid, length, length_push}
+use Rattle.plane_core.proofs.Names.{refl, root_level, row_at, slice_set, square_in, square_of, subst, suc, sym, zero, ℕ, ◌++◌, ◌+◌, ◌-◌, ◌<◌, ◌^◌, ◌∷◌, ◌≡◌, ◌≤◌}
+use Rattle.worlds.specs.Square.{empty_square}
 use Rattle.plane_core.proofs.Shared.Numbering.{Grows, Grows-more}
 use Rattle.plane_core.proofs.Shared.Sound.{IsNumber-level, IsNumber-from, IsNumber-grown, Grows-length, square_in-none, square_in-row, square_in-grown, AreRows-push, zero-IsNumber, number-kid}
 use Rattle.plane_core.proofs.Shared.Roots.{root_level-some, square_in-IsSquare}

@@ -1,13 +1,7 @@
 -- The cells of squares: where a square is put on a world, and that squares with the same cells are equal.
-use Rattle.std.proofs.Common.{◌≡◌, ℕ, zero, suc, ◌+◌, ◌-◌, ◌<◌, ◌≤◌, ◌^◌, ◌⊎◌, Bool, cond, refl, sym, ap, ap₂, ◌∙◌, arith, inl, inr, pow-suc, ℤ, pos, ◌+ℤ◌, ◌-ℤ◌, ◌≤ℤ◌}
-use Rattle.std.specs.Prelude.{nat_le, unsigned_abs}
-use Rattle.std.proofs.lemmas.Bool.{cases_lt, cond-true, cond-false, lt-leb, le-leb, false_from_ne_true}
-use Rattle.std.proofs.lemmas.Int.{ints, by_lt_z}
-use Rattle.worlds.specs.World.{World, blank, cell, cell-blank, put, cell-put, same_world}
-use Rattle.worlds.specs.Fill.{same_is, is_same}
-use Rattle.worlds.specs.Range.{AllBelow}
-use Rattle.worlds.specs.Square.{Square, one, four, empty_square, IsSquare, cell_in, put_square, square_at, IsIn}
-use Rattle.plane_core.specs.Laid.{IsClear}
+use Rattle.plane_core.proofs.Names.{AllBelow, Bool, IsClear, IsIn, Square, World, ap, ap₂, arith, blank, by_lt_z, cases_lt, cell, cell-blank, cell-put, cond, cond-false, cond-true, false_from_ne_true, four, inl, inr, ints, is_same, le-leb}
+use Rattle.plane_core.proofs.Names.{lt-leb, nat_le, one, pos, pow-suc, put, refl, same_is, same_world, suc, sym, unsigned_abs, zero, ℕ, ℤ, ◌+ℤ◌, ◌+◌, ◌-ℤ◌, ◌-◌, ◌<◌, ◌^◌, ◌∙◌, ◌≡◌, ◌≤ℤ◌, ◌≤◌, ◌⊎◌}
+use Rattle.worlds.specs.Square.{empty_square, IsSquare, cell_in, put_square, square_at}
 
 -- a side is twice that of the quadrants
 pub double : (k : ℕ) → 2 ^ suc k ≡ 2 ^ k + 2 ^ k
@@ -51,11 +45,6 @@ module _ (k : ℕ) (nw ne sw se : Square) (i j : ℕ) where
 pub cell_in-one : (k s i j : ℕ) → cell_in k (one s) i j ≡ s
 unfolding cell_in
 cell_in-one k s i j = refl
-
--- the parts of squares
-pub IsSquare-four : (k : ℕ) (nw ne sw se : Square) → IsSquare (suc k) (four nw ne sw se) → IsSquare k nw × IsSquare k ne × IsSquare k sw × IsSquare k se
-unfolding IsSquare
-IsSquare-four k nw ne sw se h = h
 
 pub IsSquare-parts : (k : ℕ) (nw ne sw se : Square) → IsSquare k nw → IsSquare k ne → IsSquare k sw → IsSquare k se → IsSquare (suc k) (four nw ne sw se)
 unfolding IsSquare

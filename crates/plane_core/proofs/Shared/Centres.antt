@@ -1,14 +1,8 @@
 -- The root in the middle of a root, by its rows.
-use Rattle.std.proofs.Common.{◌≡◌, ℕ, zero, suc, ◌-◌, ◌<◌, ◌≤◌, ◌^◌, ◌==◌, Bool, true, false, cond, List, [], ◌∷◌, ◌++◌, length, refl, sym, ap, ◌∙◌, subst, arith, inl, inr, pow_mono}
-use Rattle.std.proofs.lemmas.Bool.{cases_lt, cases_eq, and_parts, and_from, or_cases, or_left, or_right, eqb-true, eq-eqb, ne_eqb, cond-true, cond-false}
-use Rattle.std.proofs.lemmas.Int.{ints}
-use Rattle.std.proofs.lemmas.List.{length_push, get_or_push, nil_from_length}
-use Rattle.worlds.specs.World.{World}
-use Rattle.plane_core.specs.declared.row.SquareRow.{SquareRow}
-use Rattle.worlds.specs.Square.{Square, one, four, empty_square, IsSquare}
-use Rattle.plane_core.specs.Rows.{row_at, kid, IsNumber, AreRows, square_in, root_level, world_of_rows, Fits, IsLeastLevel}
-use Rattle.plane_core.specs.Walks.{AreWalked}
-use Rattle.plane_core.specs.Centre.{cornered, centred, is_passed, is_alone, NoneEmpty, AreFilled, IsCorner, IsCentre}
+use Rattle.plane_core.proofs.Names.{AreFilled, AreRows, AreWalked, Bool, Fits, IsCentre, IsCorner, IsLeastLevel, IsNumber, IsSquare, List, NoneEmpty, Square, SquareRow, World, [], and_from, and_parts, ap, arith, cases_eq, cases_lt, centred}
+use Rattle.plane_core.proofs.Names.{cond, cond-false, cond-true, cornered, eq-eqb, eqb-true, false, four, get_or_push, inl, inr, ints, is_alone, is_passed, kid, length, length_push, ne_eqb, nil_from_length, one, or_cases, or_left, or_right}
+use Rattle.plane_core.proofs.Names.{pow_mono, refl, root_level, row_at, square_in, subst, suc, sym, true, world_of_rows, zero, ℕ, ◌++◌, ◌-◌, ◌<◌, ◌==◌, ◌^◌, ◌∙◌, ◌∷◌, ◌≡◌, ◌≤◌}
+use Rattle.worlds.specs.Square.{empty_square}
 use Rattle.plane_core.proofs.Shared.Numbering.{Grows-more, Has-empty, Has-one}
 use Rattle.plane_core.proofs.Shared.Sound.{square_in-number, row_of, IsNumber-level, IsNumber-before, IsNumber-last, square_in-none, square_in-state, square_in-row, square_in-grown, AreRows-push, number-kid}
 use Rattle.plane_core.proofs.Shared.Roots.{rooted, root-IsSquare, root-Fits, root_level-none, root_level-some, root-side, square_in-IsSquare}

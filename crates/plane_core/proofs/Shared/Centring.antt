@@ -1,12 +1,7 @@
 -- A square whose live cells lie in its middle stands for the same world as the square in the middle.
-use Rattle.std.proofs.Common.{◌≡◌, ℕ, suc, ◌+◌, ◌-◌, ◌<◌, ◌≤◌, ◌^◌, sym, ap, ap₂, ◌∙◌, arith, inl, inr, ℤ, pos, ◌+ℤ◌}
-use Rattle.std.proofs.lemmas.Bool.Decides.{nat_tests}
-use Rattle.std.proofs.lemmas.Int.{ints}
-use Rattle.worlds.specs.World.{World, cell, blank, cell-blank, same_world}
-use Rattle.worlds.specs.Range.{AllBelow}
-use Rattle.worlds.specs.Square.{Square, four, empty_square, IsSquare, cell_in, put_square, square_at}
-use Rattle.plane_core.specs.Rows.{Fits, edge_of}
-use Rattle.plane_core.specs.Centre.{cornered, centred}
+use Rattle.plane_core.proofs.Names.{AllBelow, Fits, IsSquare, Square, World, ap, ap₂, arith, blank, cell, cell-blank, centred, cornered, edge_of, empty_square, four, inl, inr, ints, nat_tests, pos, put_square, same_world, square_at, suc}
+use Rattle.plane_core.proofs.Names.{sym, ℕ, ℤ, ◌+ℤ◌, ◌+◌, ◌-◌, ◌<◌, ◌^◌, ◌∙◌, ◌≡◌, ◌≤◌}
+use Rattle.worlds.specs.Square.{cell_in}
 use Rattle.plane_core.proofs.Shared.Cells.{double, cell_in-empty, IsSquare-empty, IsSquare-parts, in_or_out, offsets, nw_of, ne_of, sw_of, se_of}
 use Rattle.plane_core.proofs.Shared.Cells.{put_square-four, put_square-clear, put_square-inside, put_square-outside, put_square-below, same_put, square_at-IsSquare, square_at-suc, square_at-cells}
 use Rattle.plane_core.proofs.Totals.{IsFree, puts_free, free_parts}

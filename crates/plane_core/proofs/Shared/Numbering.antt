@@ -1,17 +1,10 @@
 -- What a walk does to the rows: it adds rows at the end, and a second walk of the same square adds none.
-use Rattle.std.proofs.Common.{◌≡◌, ℕ, zero, suc, ◌+◌, ◌<◌, Bool, true, false, cond, not, ◌||◌, List, [], ◌∷◌, ◌++◌, length, refl, sym, ap, ◌∙◌, subst, arith, append_assoc, length-append, eqb}
-use Rattle.std.proofs.lemmas.Bool.{and_parts, and_from}
-use Rattle.std.proofs.lemmas.List.{append-nil, length_push, get_or_push}
-use Rattle.std.proofs.lemmas.List.Folds.{list_any-append, list_any_at}
-use Rattle.std.proofs.lemmas.Bool.{or_left}
+use Rattle.plane_core.proofs.Names.{Bool, Has, List, Numbered, Square, SquareRow, [], and_from, and_parts, ap, append-nil, arith, cond, eq-eqb, eqb, eqb-true, false, four, get_or_push, length, length-append, length_push, list_any}
+use Rattle.plane_core.proofs.Names.{list_any-append, list_any_at, not, numbered, one, or_left, position_or_len, refl, same_kids, same_row, subst, suc, sym, true, zero, ℕ, ◌++◌, ◌+◌, ◌<◌, ◌||◌, ◌∙◌, ◌∷◌, ◌≡◌}
+use Rattle.std.proofs.Common.{append_assoc}
 use Rattle.std.proofs.lemmas.Slice.Eq.{bytes_eq-Decides}
-use Rattle.std.proofs.lemmas.Bool.{eqb-true, eq-eqb}
-use Rattle.std.specs.List.{list_any, position_or_len}
-use Rattle.std.specs.Bool.{Decides}
-use Rattle.plane_core.specs.declared.row.SquareRow.{SquareRow}
-use Rattle.worlds.specs.Square.{Square, one, four, empty_square}
-use Rattle.plane_core.specs.Walks.{Has}
-use Rattle.plane_core.specs.Rows.{Numbered, numbered, number_row, number_square, same_row, same_kids}
+use Rattle.worlds.specs.Square.{empty_square}
+use Rattle.plane_core.specs.Rows.{number_row, number_square}
 
 -- rows with others behind them
 pub record Grows (old new : List SquareRow) : Type 0 where
@@ -204,10 +197,6 @@ Has-empty (suc k) rows =
 -- a square has one number
 pub Has-one : (k : ℕ) (t : Square) (rows : List SquareRow) (m n : ℕ) → Has k t rows m → Has k t rows n → m ≡ n
 Has-one k t rows m n e f = ap (λ (r : Numbered). r.number) (sym e ∙ f)
-
--- the test says whether two rows are equal
-pub same_row-decides : (a b : SquareRow) → Decides (same_row a b) (a ≡ b)
-same_row-decides a b = (same_row-is a b, λ e. ap (same_row a) (sym e) ∙ same_row-itself a)
 
 -- an empty row has the number 0
 pub number_row-empty : (row : SquareRow) (rows : List SquareRow) → same_kids row.kids (0 ∷ 0 ∷ 0 ∷ 0 ∷ []) ≡ true → RowHas row rows 0

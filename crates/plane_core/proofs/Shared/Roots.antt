@@ -1,14 +1,10 @@
 -- The root of rows, its world, and that a world has one list of rows.
-use Rattle.std.proofs.Common.{◌≡◌, ℕ, zero, suc, ◌+◌, ◌-◌, ◌<◌, ◌≤◌, ◌^◌, List, [], ◌∷◌, length, get_or, refl, sym, ap, ◌∙◌, subst, arith, inl, inr, lit<, pow_mono, ℤ, pos, ◌+ℤ◌}
-use Rattle.std.proofs.lemmas.Int.{ints}
-use Rattle.worlds.specs.World.{cell, blank, cell-blank, same_world}
-use Rattle.worlds.specs.Range.{HasMargin}
-use Rattle.plane_core.specs.declared.row.SquareRow.{SquareRow}
-use Rattle.worlds.specs.Square.{Square, IsSquare, cell_in, put_square, IsIn}
-use Rattle.plane_core.specs.Rows.{no_row, row_at, kid, IsNumber, AreRows, square_in, root_level, root_of, edge_of, world_of_rows, Fits, AreKept}
+use Rattle.plane_core.proofs.Names.{AllBelow, AreKept, AreRows, Fits, HasMargin, IsIn, IsNumber, IsSquare, List, Square, SquareRow, [], ap, arith, blank, cell, cell-blank, cell_in, edge_of, get_or, inl, inr, ints, kid, length, lit<, no_row}
+use Rattle.plane_core.proofs.Names.{pos, pow_mono, put_square, refl, root_of, row_at, same_world, square_in, subst, suc, sym, zero, ℕ, ℤ, ◌+ℤ◌, ◌+◌, ◌-◌, ◌<◌, ◌^◌, ◌∙◌, ◌∷◌, ◌≡◌, ◌≤◌}
+use Rattle.plane_core.specs.Rows.{root_level, world_of_rows}
 use Rattle.plane_core.proofs.Shared.Numbering.{Has-empty}
 use Rattle.plane_core.proofs.Shared.Sound.{kid_number, square_in-none, square_in-state, square_in-row, state-IsNumber, IsNumber-level, IsNumber-from, AreRows-none}
-use Rattle.plane_core.proofs.Shared.Cells.{IsSquare-one, IsSquare-empty, IsSquare-parts, cell_in-empty, same_square, put_square-inside, put_square-outside, in_or_out, offsets, double}
+use Rattle.plane_core.proofs.Shared.Cells.{IsSquare-one, IsSquare-empty, IsSquare-parts, cell_in-empty, same_square, put_square-below, put_square-inside, put_square-outside, in_or_out, offsets, double}
 
 -- the square of a number is one
 pub square_in-IsSquare : (rows : List SquareRow) (k n : ℕ) → AreRows rows → IsNumber rows k n → IsSquare k (square_in rows k n)
@@ -62,6 +58,10 @@ world-inside rows x y i j valid ex ey hi hj = grind (arith, world-root, put_squa
 -- and outside it
 pub world-outside : (rows : List SquareRow) (x y : ℤ) → AreRows rows → (IsIn (2 ^ root_level rows) (edge_of (root_level rows)) (edge_of (root_level rows)) x y → ⊥) → cell (world_of_rows rows) x y ≡ 0
 world-outside rows x y valid out = grind (arith, world-root, put_square-outside, root-IsSquare, cell-blank)
+
+-- each state is below 256
+pub root-below : (rows : List SquareRow) → AreRows rows → AllBelow 256 (world_of_rows rows)
+root-below rows valid = subst (AllBelow 256) (sym (world-root rows)) (put_square-below (root_level rows) _ _ _ (root-IsSquare rows valid))
 
 -- the live cells lie in the root's square
 pub root-Fits : (rows : List SquareRow) → AreRows rows → Fits (root_level rows) (world_of_rows rows)

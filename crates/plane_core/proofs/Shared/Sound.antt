@@ -1,14 +1,9 @@
 -- What the rows of a walk stand for: each number names the square that was walked, and each row is the one of its square.
-use Rattle.std.proofs.Common.{◌≡◌, ℕ, zero, suc, ◌+◌, ◌-◌, ◌<◌, ◌≤◌, Bool, true, false, cond, not, ◌||◌, List, [], ◌∷◌, ◌++◌, length, take, drop, get_or, refl, sym, ap, ◌∙◌, subst, arith, length-append}
-use Rattle.std.proofs.lemmas.Bool.{cases_lt}
-use Rattle.std.proofs.lemmas.List.{length_push, get_or_append_left, get_or_push, take-append-drop, take-append-le, take_at}
-use Rattle.std.proofs.lemmas.List.Sums.{passes_at_first}
-use Rattle.std.specs.List.{list_any, position_or_len}
-use Rattle.plane_core.specs.declared.row.SquareRow.{SquareRow}
-use Rattle.worlds.specs.Square.{Square, one, four, empty_square, IsSquare}
-use Rattle.plane_core.specs.Rows.{Numbered, numbered, number_row, number_square, same_row, same_kids, no_row, row_at, kid, IsNumber, IsRow, AreRows, square_in}
-use Rattle.plane_core.specs.Laid.{square_of}
-use Rattle.plane_core.specs.Walks.{Has, Walks}
+use Rattle.plane_core.proofs.Names.{AreRows, Bool, Has, IsRow, List, Numbered, Square, SquareRow, Walks, [], ap, arith, cases_lt, cond, drop, false, four, get_or, get_or_append_left, get_or_push, kid, length, length-append, length_push}
+use Rattle.plane_core.proofs.Names.{list_any, no_row, not, number_row, numbered, one, passes_at_first, position_or_len, refl, row_at, same_kids, same_row, square_of, subst, suc, sym, take, take-append-drop, take-append-le, take_at, true}
+use Rattle.plane_core.proofs.Names.{zero, ℕ, ◌++◌, ◌+◌, ◌-◌, ◌<◌, ◌||◌, ◌∙◌, ◌∷◌, ◌≡◌, ◌≤◌}
+use Rattle.worlds.specs.Square.{empty_square, IsSquare}
+use Rattle.plane_core.specs.Rows.{number_square, IsNumber, square_in}
 use Rattle.plane_core.proofs.Shared.Numbering.{Grows, Grows-more, Grows-then, RowHas, Has-grown, Has-four, Has-empty, RowHas-again, number_row-is, number_square-grows, same_row-is, not_found}
 
 -- what holds of each of four

@@ -1,14 +1,9 @@
 -- The rows that a walk gives have the walked square as their root.
-use Rattle.std.proofs.Common.{◌≡◌, ℕ, zero, suc, ◌+◌, ◌-◌, ◌<◌, ◌≤◌, ◌⊎◌, Bool, true, false, List, [], length, get_or, refl, sym, ap, ◌∙◌, subst, arith, inl, inr}
-use Rattle.std.proofs.lemmas.Bool.{cases_lt}
-use Rattle.std.proofs.lemmas.List.{length_push, get_or_append_left, get_or_push}
-use Rattle.std.specs.List.{list_any, position_or_len}
-use Rattle.std.specs.Prelude.{Result, IfOk}
-use Rattle.worlds.specs.World.{blank, cell-blank}
-use Rattle.plane_core.specs.declared.row.SquareRow.{SquareRow}
-use Rattle.worlds.specs.Square.{Square, one, four, empty_square, IsSquare, put_square}
-use Rattle.plane_core.specs.Rows.{Numbered, numbered, number_row, number_square, same_row, no_row, AreRows, square_in, root_level, root_of, edge_of, world_of_rows, IsLeastLevel, AreKept}
-use Rattle.plane_core.specs.Walks.{AreWalked}
+use Rattle.plane_core.proofs.Names.{AreKept, AreRows, AreWalked, Bool, IfOk, IsLeastLevel, List, Numbered, Result, Square, SquareRow, [], ap, arith, blank, cases_lt, cell-blank, edge_of, empty_square, false, four, get_or}
+use Rattle.plane_core.proofs.Names.{get_or_append_left, get_or_push, inl, inr, length, length_push, list_any, no_row, numbered, one, position_or_len, put_square, refl, root_level, root_of, same_row, square_in, subst, suc, sym, true}
+use Rattle.plane_core.proofs.Names.{world_of_rows, zero, ℕ, ◌+◌, ◌-◌, ◌<◌, ◌∙◌, ◌≡◌, ◌≤◌, ◌⊎◌}
+use Rattle.worlds.specs.Square.{IsSquare}
+use Rattle.plane_core.specs.Rows.{number_row, number_square}
 use Rattle.plane_core.proofs.Shared.Numbering.{Has-empty, not_found}
 use Rattle.plane_core.proofs.Shared.Sound.{IsSound, EachHas-none, AreRows-none, number_square-sound, IsNumber-level, square_in-none, found_within, found_at, row_of}
 use Rattle.plane_core.proofs.Shared.Cells.{put_square-clear}

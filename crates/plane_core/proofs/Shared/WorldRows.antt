@@ -1,20 +1,10 @@
 -- A world's rows, by its cells.
-use Rattle.std.proofs.Common.{◌≡◌, ◌∙◌, sym, ap, refl, subst, ℕ, suc, ◌+◌, ◌-◌, ◌<◌, ◌≤◌, ◌^◌, ◌&&◌, Bool, true, false, List, [], ◌∷◌, get_or, arith, inl, inr, ℤ, pos, ◌+ℤ◌, ◌≤ℤ◌, ◌<ℤ◌}
-use Rattle.std.specs.Prelude.{int_le, int_lt}
-use Rattle.std.specs.List.{AllByRecursion, list_all, position_or_len, range_with_len}
-use Rattle.std.proofs.lemmas.Bool.{and_from, and_parts, cases_lt}
-use Rattle.std.proofs.lemmas.Int.{ints}
-use Rattle.std.proofs.lemmas.List.FromFn.{get_or-range_with_len}
-use Rattle.std.proofs.lemmas.List.Sums.{fails_before_first, passes_at_first, position_or_len_is}
-use Rattle.worlds.specs.World.{Place, World, blank, cell}
-use Rattle.worlds.specs.Range.{AllBelow, HasMargin}
-use Rattle.worlds.specs.Live.{by_place, cell-state_at, live, live-states}
-use Rattle.plane_core.specs.declared.row.SquareRow.{SquareRow}
-use Rattle.worlds.specs.Square.{IsIn, IsSquare, square_at}
-use Rattle.plane_core.specs.Rows.{AreKept, AreRows, AreSquaresOf, Fits, IsLeastLevel, completed, edge_of, root_level, root_of, world_of_rows, written}
-use Rattle.plane_core.proofs.Shared.Cells.{put_square-below, same_put, square_at-IsSquare}
+use Rattle.plane_core.proofs.Names.{AllBelow, AllByRecursion, AreKept, AreRows, AreSquaresOf, Bool, Fits, HasMargin, IsIn, IsLeastLevel, IsSquare, List, Place, SquareRow, World, [], and_from, and_parts, ap, arith, blank, by_place, cases_lt}
+use Rattle.plane_core.proofs.Names.{cell, cell-state_at, completed, edge_of, fails_before_first, false, get_or, get_or-range_with_len, inl, inr, int_le, int_lt, ints, list_all, live, live-states, passes_at_first, pos, position_or_len}
+use Rattle.plane_core.proofs.Names.{position_or_len_is, range_with_len, refl, root_level, root_of, square_at, subst, suc, sym, true, world_of_rows, written, ℕ, ℤ, ◌&&◌, ◌+ℤ◌, ◌+◌, ◌-◌, ◌<ℤ◌, ◌<◌, ◌^◌, ◌∙◌, ◌∷◌, ◌≡◌, ◌≤ℤ◌, ◌≤◌}
+use Rattle.plane_core.proofs.Shared.Cells.{same_put, square_at-IsSquare}
 use Rattle.plane_core.proofs.Shared.Centring.{root-world}
-use Rattle.plane_core.proofs.Shared.Roots.{kept-none, root-Fits, root-IsSquare, rooted, world-none, world-root}
+use Rattle.plane_core.proofs.Shared.Roots.{kept-none, root-below, root-Fits, root-IsSquare, rooted, world-none, world-root}
 use Rattle.plane_core.specs.Laws.{EmptyWorldHasOneRow, WorldsHaveRows}
 use Rattle.plane_core.specs.WorldRows.{holds_all, is_within, least_level, rows_of}
 use Rattle.plane_core.proofs.Shared.Tidy.{IsListed, listed}
@@ -28,7 +18,7 @@ root-square_at rows valid =
     let k = root_level rows in
     let w = world_of_rows rows in
     let is = root-IsSquare rows valid in
-    let small : AllBelow 256 w = subst (AllBelow 256) (sym (world-root rows)) (put_square-below k _ _ _ is) in
+    let small = root-below rows valid in
     same_put k _ (root_of rows) (edge_of k) (edge_of k) (square_at-IsSquare w k _ _ small) is
     (root-world w k (root-Fits rows valid) small ∙ world-root rows)
 

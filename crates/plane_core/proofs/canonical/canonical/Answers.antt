@@ -1,5 +1,4 @@
-use Rattle.std.proofs.Common.{sym, subst, ◌∙◌}
-use Rattle.plane_core.specs.Centre.{AreCentred}
+use Rattle.plane_core.proofs.Names.{AreCentred, subst, sym, ◌∙◌}
 use Rattle.plane_core.proofs.Shared.Tidy.{IfOk_then, tidied, kept-walked}
 use Rattle.plane_core.proofs.Shared.Centres.{walked-filled}
 use Rattle.plane_core.proofs.canonical.canonical.Goals as goal

@@ -1,6 +1,4 @@
-use Rattle.std.proofs.Common.{◌≡◌, ◌<◌, ◌^◌, false, length}
-use Rattle.plane_core.specs.Rows.{root_level, world_of_rows}
-use Rattle.plane_core.specs.Centre.{AreFilled}
+use Rattle.plane_core.proofs.Names.{AreFilled, false, length, root_level, world_of_rows, ◌<◌, ◌^◌, ◌≡◌}
 use Rattle.plane_core.proofs.centre.add_centres.Given as goal
 
 abbrev pub invariant-loop-row : goal.invariant-loop-row

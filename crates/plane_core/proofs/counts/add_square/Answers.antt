@@ -1,5 +1,4 @@
-use Rattle.std.proofs.Common.{◌≡◌, ◌∙◌, ◌+◌, ◌-◌, ◌≤◌, get_or, length, ◌<◌, set, refl, ap, arith}
-use Rattle.std.proofs.lemmas.Grind.{get_or_default_zero}
+use Rattle.plane_core.proofs.Names.{ap, arith, get_or, get_or_default_zero, length, refl, set, ◌+◌, ◌-◌, ◌<◌, ◌∙◌, ◌≡◌, ◌≤◌}
 use Rattle.plane_core.proofs.Counting.{gains-none, gains-state, gains-row, number-small, room-state, room-row}
 use Rattle.plane_core.proofs.counts.add_square.Goals as goal
 

@@ -1,7 +1,4 @@
-use Rattle.std.proofs.Common.{length, replicate, refl, sym, subst, arith}
-use Rattle.plane_core.specs.declared.counts.Tally.{Tally}
-use Rattle.plane_core.specs.Rows.{IsNumber, square_in, root_of}
-use Rattle.plane_core.specs.Counts.{Gains}
+use Rattle.plane_core.proofs.Names.{Gains, IsNumber, Tally, arith, length, refl, replicate, root_of, square_in, subst, sym}
 use Rattle.plane_core.proofs.Shared.Roots.{rooted}
 use Rattle.plane_core.proofs.Counting.{room-root, tallied-root, popped-room, tallied-more, tallied-all}
 use Rattle.plane_core.proofs.counts.counts.Goals as goal

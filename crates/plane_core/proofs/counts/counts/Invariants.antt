@@ -1,6 +1,4 @@
-use Rattle.std.proofs.Common.{length}
-use Rattle.plane_core.specs.Rows.{root_of}
-use Rattle.plane_core.specs.Counts.{IsTallied}
+use Rattle.plane_core.proofs.Names.{IsTallied, length, root_of}
 use Rattle.plane_core.proofs.counts.counts.Given as goal
 
 abbrev pub invariant-loop-times : goal.invariant-loop-times

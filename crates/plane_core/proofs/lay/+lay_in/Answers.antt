@@ -1,11 +1,4 @@
-use Rattle.std.proofs.Common.{◌≡◌, List, Bor, [], ◌∷◌, get_or, sym, subst, arith, lit<}
-use Rattle.std.proofs.lemmas.Result.{IfOk-weaker}
-use Rattle.worlds.specs.World.{World}
-use Rattle.plane_core.specs.declared.part.Part.{Part}
-use Rattle.plane_core.specs.declared.span.Span.{Span}
-use Rattle.plane_core.specs.Part.{Shows}
-use Rattle.plane_core.specs.Spans.{drawn}
-use Rattle.plane_core.specs.Laid.{AreThoseIn, quadrant_of, spans_of_runs}
+use Rattle.plane_core.proofs.Names.{AreThoseIn, Bor, IfOk-weaker, List, Part, Shows, Span, World, [], arith, drawn, get_or, lit<, quadrant_of, spans_of_runs, subst, sym, ◌∷◌, ◌≡◌}
 use Rattle.plane_core.proofs.Shared.Adding.{Keeps-none, Keeps-then}
 use Rattle.plane_core.proofs.Shared.Sound.{each_of_four}
 use Rattle.plane_core.proofs.Laying.{goes_on, laid-four, laid-quadrant}

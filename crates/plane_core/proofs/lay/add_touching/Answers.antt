@@ -1,10 +1,4 @@
-use Rattle.std.proofs.Common.{◌≡◌, List, [], ◌∷◌, ◌++◌, None, refl, arith, rules, sym, ap, subst, ◌∙◌}
-use Rattle.std.specs.Prelude.{◌↔◌, All, IsTrue}
-use Rattle.std.specs.List.{slice_get}
-use Rattle.std.proofs.lemmas.List.{append_assoc, append-nil}
-use Rattle.plane_core.specs.declared.span.Span.{Span}
-use Rattle.plane_core.specs.Spans.{CanBeDrawn}
-use Rattle.plane_core.specs.Laid.{AreThoseIn, Touches, spans_of_runs}
+use Rattle.plane_core.proofs.Names.{All, AreThoseIn, CanBeDrawn, IsTrue, List, None, Span, Touches, [], ap, append-nil, append_assoc, arith, refl, rules, slice_get, spans_of_runs, subst, sym, ◌++◌, ◌↔◌, ◌∙◌, ◌∷◌, ◌≡◌}
 use Rattle.plane_core.proofs.Laying.{all-left, all-right, adds-kept, adds-passed}
 use Rattle.plane_core.proofs.lay.add_touching.Goals as goal
 

@@ -1,6 +1,4 @@
-use Rattle.std.proofs.Common.{◌≡◌, List, ◌++◌, length}
-use Rattle.plane_core.specs.declared.span.Span.{Span}
-use Rattle.plane_core.specs.Laid.{AddsTouching}
+use Rattle.plane_core.proofs.Names.{AddsTouching, List, Span, length, ◌++◌, ◌≡◌}
 use Rattle.plane_core.proofs.lay.add_touching.Given as goal
 
 -- those that aren't left are added

@@ -1,6 +1,4 @@
-use Rattle.std.proofs.Common.{ℕ, ◌<◌, get_or}
-use Rattle.plane_core.specs.declared.span.Span.{Span}
-use Rattle.plane_core.specs.Laid.{LiesIn}
+use Rattle.plane_core.proofs.Names.{LiesIn, Span, get_or, ℕ, ◌<◌}
 use Rattle.plane_core.proofs.lay.are_in.Given as goal
 
 abbrev pub invariant-loop-span : goal.invariant-loop-span

@@ -1,5 +1,4 @@
-use Rattle.std.proofs.Common.{[], ◌∷◌, get_or}
-use Rattle.plane_core.specs.Laid.{quadrant_of}
+use Rattle.plane_core.proofs.Names.{[], get_or, quadrant_of, ◌∷◌}
 use Rattle.plane_core.proofs.Laying.{IsDrawnState, drawn-at, drawn-block}
 use Rattle.plane_core.proofs.Shared.Sound.{each_of_four}
 use Rattle.plane_core.proofs.lay.drawn_states.Goals as goal

@@ -1,5 +1,4 @@
-use Rattle.std.proofs.Common.{◌≡◌, ◌^◌, arith, rules}
-use Rattle.std.proofs.lemmas.Int.{ints}
+use Rattle.plane_core.proofs.Names.{arith, ints, rules, ◌^◌, ◌≡◌}
 use Rattle.plane_core.proofs.lay.is_in.Goals as goal
 
 pub returns : goal.returns

@@ -1,7 +1,4 @@
-use Rattle.std.proofs.Common.{List, [], sym, subst}
-use Rattle.plane_core.specs.declared.span.Span.{Span}
-use Rattle.plane_core.specs.Spans.{CanBeDrawn}
-use Rattle.plane_core.specs.Laid.{AreLaidStates}
+use Rattle.plane_core.proofs.Names.{AreLaidStates, CanBeDrawn, List, Span, [], subst, sym}
 use Rattle.plane_core.proofs.Laying.{all-run, laid-then, runs-more}
 use Rattle.plane_core.proofs.lay.laid_runs.Goals as goal
 

@@ -1,5 +1,4 @@
-use Rattle.std.proofs.Common.{take}
-use Rattle.plane_core.specs.Laid.{AreLaidStates, spans_of_runs}
+use Rattle.plane_core.proofs.Names.{AreLaidStates, spans_of_runs, take}
 use Rattle.plane_core.proofs.lay.laid_runs.Given as goal
 
 abbrev pub invariant-loop-run : goal.invariant-loop-run

@@ -1,7 +1,4 @@
-use Rattle.std.proofs.Common.{List, pos, sym, subst}
-use Rattle.std.proofs.lemmas.List.{take_more}
-use Rattle.plane_core.specs.declared.span.Span.{Span}
-use Rattle.plane_core.specs.Laid.{AreLaidStates}
+use Rattle.plane_core.proofs.Names.{AreLaidStates, List, Span, pos, subst, sym, take_more}
 use Rattle.plane_core.proofs.Laying.{laid-then}
 use Rattle.plane_core.proofs.lay.laid_states.Goals as goal
 

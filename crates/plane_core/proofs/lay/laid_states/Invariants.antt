@@ -1,5 +1,4 @@
-use Rattle.std.proofs.Common.{take}
-use Rattle.plane_core.specs.Laid.{AreLaidStates}
+use Rattle.plane_core.proofs.Names.{AreLaidStates, take}
 use Rattle.plane_core.proofs.lay.laid_states.Given as goal
 
 abbrev pub invariant-loop-span : goal.invariant-loop-span

@@ -1,10 +1,4 @@
-use Rattle.std.proofs.Common.{◌-◌, List, ap, ◌∙◌, subst}
-use Rattle.std.proofs.lemmas.List.{append-nil}
-use Rattle.plane_core.specs.declared.span.Span.{Span}
-use Rattle.plane_core.specs.declared.row.SquareRow.{SquareRow}
-use Rattle.plane_core.specs.Part.{IsRoot}
-use Rattle.plane_core.specs.Spans.{drawn}
-use Rattle.plane_core.specs.Laid.{AreQuadrants, IsLaid}
+use Rattle.plane_core.proofs.Names.{AreQuadrants, IsLaid, IsRoot, List, Span, SquareRow, ap, append-nil, drawn, subst, ◌-◌, ◌∙◌}
 use Rattle.plane_core.proofs.Laying.{added-level, laid-root, laid-world}
 use Rattle.plane_core.proofs.lay.lay_batch.Goals as goal
 

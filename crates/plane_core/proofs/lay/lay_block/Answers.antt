@@ -1,7 +1,4 @@
-use Rattle.std.proofs.Common.{List, get_or, subst, arith}
-use Rattle.std.proofs.lemmas.Result.{IfOk-weaker}
-use Rattle.plane_core.specs.declared.row.SquareRow.{SquareRow}
-use Rattle.plane_core.specs.Laid.{AreQuadrants, spans_of_runs}
+use Rattle.plane_core.proofs.Names.{AreQuadrants, IfOk-weaker, List, SquareRow, arith, get_or, spans_of_runs, subst}
 use Rattle.plane_core.proofs.Laying.{laid-block}
 use Rattle.plane_core.proofs.Shared.Sound.{IsNumber-state, state-IsNumber}
 use Rattle.plane_core.proofs.lay.lay_block.Goals as goal

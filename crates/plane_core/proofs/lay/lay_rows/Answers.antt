@@ -1,9 +1,4 @@
-use Rattle.std.proofs.Common.{◌∙◌, List, sym, ap, subst}
-use Rattle.std.specs.Prelude.{All}
-use Rattle.std.proofs.lemmas.List.Elements.{All-drop}
-use Rattle.plane_core.specs.declared.span.Span.{Span}
-use Rattle.plane_core.specs.Rows.{world_of_rows}
-use Rattle.plane_core.specs.Spans.{CanBeDrawn, drawn}
+use Rattle.plane_core.proofs.Names.{All, All-drop, CanBeDrawn, List, Span, ap, drawn, subst, sym, world_of_rows, ◌∙◌}
 use Rattle.plane_core.proofs.Laying.{drawn-append}
 use Rattle.plane_core.proofs.lay.lay_rows.Goals as goal
 

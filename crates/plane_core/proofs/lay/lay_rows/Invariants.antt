@@ -1,6 +1,4 @@
-use Rattle.std.proofs.Common.{◌≡◌, ◌<◌, ◌^◌, length, All}
-use Rattle.plane_core.specs.Rows.{AreRows, world_of_rows}
-use Rattle.plane_core.specs.Spans.{CanBeDrawn, drawn}
+use Rattle.plane_core.proofs.Names.{All, AreRows, CanBeDrawn, drawn, length, world_of_rows, ◌<◌, ◌^◌, ◌≡◌}
 use Rattle.plane_core.proofs.lay.lay_rows.Given as goal
 
 abbrev pub invariant-loop-rest : goal.invariant-loop-rest

@@ -1,6 +1,4 @@
-use Rattle.std.proofs.Common.{List, get_or, rules, subst}
-use Rattle.plane_core.specs.declared.row.SquareRow.{SquareRow}
-use Rattle.plane_core.specs.Laid.{IsNamed}
+use Rattle.plane_core.proofs.Names.{IsNamed, List, SquareRow, get_or, rules, subst}
 use Rattle.plane_core.proofs.Laying.{made-before, made-empty}
 use Rattle.plane_core.proofs.lay.made.Goals as goal
 

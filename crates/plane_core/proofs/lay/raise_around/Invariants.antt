@@ -1,5 +1,4 @@
-use Rattle.std.proofs.Common.{◌≡◌, ◌-◌, ◌<◌, ◌^◌, length}
-use Rattle.plane_core.specs.Rows.{AreRows, root_level, world_of_rows}
+use Rattle.plane_core.proofs.Names.{AreRows, length, root_level, world_of_rows, ◌-◌, ◌<◌, ◌^◌, ◌≡◌}
 use Rattle.plane_core.proofs.lay.raise_around.Given as goal
 
 abbrev pub invariant-loop-rows : goal.invariant-loop-rows

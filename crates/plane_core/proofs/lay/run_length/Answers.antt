@@ -1,9 +1,5 @@
-use Rattle.std.proofs.Common.{◌≡◌, ◌<◌, Bool, true, false, List, get_or, length, pos, refl, subst, arith}
+use Rattle.plane_core.proofs.Names.{All-more, All-nil, Bool, IsTrue, List, Span, Touches, arith, false, get_or, length, pos, refl, subst, true, ◌<◌, ◌↔◌, ◌≡◌}
 use mathlib.Core.Bool.{beq}
-use Rattle.std.specs.Prelude.{◌↔◌, IsTrue}
-use Rattle.std.proofs.lemmas.List.Elements.{All-nil, All-more}
-use Rattle.plane_core.specs.declared.span.Span.{Span}
-use Rattle.plane_core.specs.Laid.{Touches}
 use Rattle.plane_core.proofs.lay.run_length.Goals as goal
 
 abbrev none : Span

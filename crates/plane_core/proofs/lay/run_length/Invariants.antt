@@ -1,6 +1,4 @@
-use Rattle.std.proofs.Common.{◌≤◌, ◌-◌, length, take, All}
-use Rattle.std.specs.Prelude.{◌↔◌, IsTrue}
-use Rattle.plane_core.specs.Laid.{Touches}
+use Rattle.plane_core.proofs.Names.{All, IsTrue, Touches, length, take, ◌-◌, ◌↔◌, ◌≤◌}
 use Rattle.plane_core.proofs.lay.run_length.Given as goal
 
 abbrev pub invariant-loop-count : goal.invariant-loop-count

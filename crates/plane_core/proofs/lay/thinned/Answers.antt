@@ -1,5 +1,4 @@
-use Rattle.std.proofs.Common.{sym, subst, arith}
-use Rattle.plane_core.specs.Rows.{AreRows}
+use Rattle.plane_core.proofs.Names.{AreRows, arith, subst, sym}
 use Rattle.plane_core.proofs.Shared.Tidy.{tidied}
 use Rattle.plane_core.proofs.lay.thinned.Goals as goal
 

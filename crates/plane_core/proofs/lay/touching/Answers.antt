@@ -1,8 +1,4 @@
-use Rattle.std.proofs.Common.{List, Bor, [], sym, subst, arith}
-use Rattle.std.proofs.lemmas.List.{take_all}
-use Rattle.plane_core.specs.declared.span.Span.{Span}
-use Rattle.plane_core.specs.Spans.{CanBeDrawn}
-use Rattle.plane_core.specs.Laid.{AreThoseIn, spans_of_runs}
+use Rattle.plane_core.proofs.Names.{AreThoseIn, Bor, CanBeDrawn, List, Span, [], arith, spans_of_runs, subst, sym, take_all}
 use Rattle.plane_core.proofs.Laying.{all-run, runs-more}
 use Rattle.plane_core.proofs.lay.touching.Goals as goal
 

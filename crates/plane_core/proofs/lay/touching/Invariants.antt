@@ -1,5 +1,4 @@
-use Rattle.std.proofs.Common.{take}
-use Rattle.plane_core.specs.Laid.{AreThoseIn, spans_of_runs}
+use Rattle.plane_core.proofs.Names.{AreThoseIn, spans_of_runs, take}
 use Rattle.plane_core.proofs.lay.touching.Given as goal
 
 abbrev pub invariant-loop-run : goal.invariant-loop-run

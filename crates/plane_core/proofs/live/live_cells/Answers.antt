@@ -1,9 +1,4 @@
-use Rattle.std.proofs.Common.{arith, rules}
-use Rattle.std.proofs.lemmas.Int.{ints}
-use Rattle.std.proofs.lemmas.List.Sorted.{answers_always}
-use Rattle.worlds.specs.Live.{place_of}
-use Rattle.worlds.specs.Range.{Holds}
-use Rattle.plane_core.specs.Rows.{world_of_rows}
+use Rattle.plane_core.proofs.Names.{Holds, answers_always, arith, ints, place_of, rules, world_of_rows}
 use Rattle.plane_core.proofs.Shared.Roots.{margin}
 use Rattle.plane_core.proofs.Entries.{in_order}
 use Rattle.plane_core.proofs.live.live_cells.Goals as goal

@@ -1,7 +1,4 @@
-use Rattle.std.proofs.Common.{arith}
-use Rattle.std.proofs.lemmas.Bool.{cases_lt}
-use Rattle.std.proofs.lemmas.List.{nil_from_length}
-use Rattle.std.proofs.lemmas.Option.{slice_get_within, get_or_from_slice_get, slice_get-get_or}
+use Rattle.plane_core.proofs.Names.{arith, cases_lt, get_or_from_slice_get, nil_from_length, slice_get-get_or, slice_get_within}
 use Rattle.plane_core.proofs.Shared.Roots.{root_level-some, root_level-none}
 use Rattle.plane_core.proofs.part.root_level.Goals as goal
 

@@ -1,9 +1,4 @@
-use Rattle.std.proofs.Common.{◌-◌, [], ◌∷◌, subst, slice_set}
-use Rattle.worlds.specs.Square.{Square}
-use Rattle.plane_core.specs.Centre.{cornered}
-use Rattle.plane_core.specs.Rows.{square_in}
-use Rattle.plane_core.specs.Laid.{IsAdded, square_of}
-use Rattle.std.proofs.lemmas.Result.{IfOk-weaker}
+use Rattle.plane_core.proofs.Names.{IfOk-weaker, IsAdded, Square, [], cornered, slice_set, square_in, square_of, subst, ◌-◌, ◌∷◌}
 use Rattle.plane_core.proofs.Shared.Adding.{corner_kids}
 use Rattle.plane_core.proofs.raise.push_cornered.Goals as goal
 

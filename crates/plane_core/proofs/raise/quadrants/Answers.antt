@@ -1,5 +1,4 @@
-use Rattle.std.proofs.Common.{◌-◌, sym, subst, arith, [], ◌∷◌}
-use Rattle.plane_core.specs.Laid.{AreQuadrants}
+use Rattle.plane_core.proofs.Names.{AreQuadrants, [], arith, subst, sym, ◌-◌, ◌∷◌}
 use Rattle.plane_core.proofs.Shared.Adding.{quadrants-none, quadrants-row}
 use Rattle.plane_core.proofs.Shared.Sound.{number-listed}
 use Rattle.plane_core.proofs.raise.quadrants.Goals as goal

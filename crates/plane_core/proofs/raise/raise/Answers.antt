@@ -1,7 +1,4 @@
-use Rattle.std.proofs.Common.{◌≡◌, ◌-◌, ◌≤◌, List, length, sym, ap, ◌∙◌, subst, arith}
-use Rattle.plane_core.specs.declared.row.SquareRow.{SquareRow}
-use Rattle.plane_core.specs.Rows.{root_level}
-use Rattle.plane_core.specs.Laid.{AreQuadrants}
+use Rattle.plane_core.proofs.Names.{AreQuadrants, List, SquareRow, ap, arith, length, root_level, subst, sym, ◌-◌, ◌∙◌, ◌≡◌, ◌≤◌}
 use Rattle.plane_core.proofs.Shared.Roots.{rooted}
 use Rattle.plane_core.proofs.Shared.Adding.{raised}
 use Rattle.plane_core.proofs.raise.raise.Goals as goal

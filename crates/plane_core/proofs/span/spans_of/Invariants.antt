@@ -1,5 +1,4 @@
-use Rattle.std.proofs.Common.{◌≡◌, take, All}
-use Rattle.plane_core.specs.Spans.{CanBeDrawn, cells_of_spans}
+use Rattle.plane_core.proofs.Names.{All, CanBeDrawn, cells_of_spans, take, ◌≡◌}
 use Rattle.plane_core.proofs.span.spans_of.Given as goal
 
 abbrev pub invariant-loop-cell : goal.invariant-loop-cell

@@ -1,6 +1,4 @@
-use Rattle.std.proofs.Common.{List, arith, subst, sym, ◌∙◌}
-use Rattle.plane_core.specs.declared.strip.Strip.{Strip}
-use Rattle.plane_core.specs.Strips.{IsOutOfRow}
+use Rattle.plane_core.proofs.Names.{IsOutOfRow, List, Strip, arith, subst, sym, ◌∙◌}
 use Rattle.plane_core.proofs.Strips.{first_none, first-near, first-out, out-none}
 use Rattle.plane_core.proofs.strip.is_in_row.Goals as goal
 

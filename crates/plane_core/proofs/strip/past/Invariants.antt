@@ -1,5 +1,4 @@
-use Rattle.std.proofs.Common.{◌≡◌, ℕ, drop}
-use Rattle.plane_core.specs.Strips.{IsOnward, number_at}
+use Rattle.plane_core.proofs.Names.{IsOnward, drop, number_at, ℕ, ◌≡◌}
 use Rattle.plane_core.proofs.strip.past.Given as goal
 
 abbrev pub invariant-loop-i : goal.invariant-loop-i

@@ -1,6 +1,4 @@
-use Rattle.std.proofs.Common.{sym, subst, arith, ◌^◌, List, ◌∙◌}
-use Rattle.plane_core.specs.declared.strip.Strip.{Strip}
-use Rattle.plane_core.specs.Strips.{IsReach}
+use Rattle.plane_core.proofs.Names.{IsReach, List, Strip, arith, subst, sym, ◌^◌, ◌∙◌}
 use Rattle.plane_core.proofs.Strips.{first_none, first-other, first-gap, first-here, reach-none}
 use Rattle.plane_core.proofs.strip.reach_at.Goals as goal
 

@@ -1,5 +1,4 @@
-use Rattle.std.proofs.Common.{ℕ, ◌<◌, take, get_or}
-use Rattle.plane_core.specs.Rows.{IsRow, no_row}
+use Rattle.plane_core.proofs.Names.{IsRow, get_or, no_row, take, ℕ, ◌<◌}
 use Rattle.plane_core.proofs.valid.are_rows.Given as goal
 
 abbrev pub invariant-loop-place : goal.invariant-loop-place

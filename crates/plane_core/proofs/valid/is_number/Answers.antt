@@ -1,5 +1,4 @@
-use Rattle.std.proofs.Common.{arith}
-use Rattle.std.proofs.lemmas.Bool.{ltb-true, lt-ltb, eqb-true, eq-eqb}
+use Rattle.plane_core.proofs.Names.{arith, eq-eqb, eqb-true, lt-ltb, ltb-true}
 use Rattle.plane_core.proofs.Shared.Sound.{IsNumber-state, state-IsNumber, zero-IsNumber, number-listed, listed-number}
 use Rattle.plane_core.proofs.valid.is_number.Goals as goal
 

@@ -1,5 +1,4 @@
-use Rattle.std.proofs.Common.{◌≡◌, ◌-◌, get_or, sym, ◌∙◌, arith, lit<, None, Some}
-use Rattle.std.proofs.lemmas.List.{get_or_read}
+use Rattle.plane_core.proofs.Names.{None, Some, arith, get_or, get_or_read, lit<, sym, ◌-◌, ◌∙◌, ◌≡◌}
 use Rattle.plane_core.proofs.Shared.Sound.{Has-state, Has-none, number-listed, number-kid}
 use Rattle.plane_core.proofs.Walking.{walks-known, walks-four, remembers-more, grows-complete}
 use Rattle.plane_core.proofs.walk.+walk_square.Goals as goal

@@ -1,6 +1,4 @@
-use Rattle.std.proofs.Common.{◌+◌, ◌<◌, ◌^◌, List, length, sym, ap, subst, ◌∙◌, arith}
-use Rattle.plane_core.specs.declared.row.SquareRow.{SquareRow}
-use Rattle.plane_core.specs.Rows.{Numbered}
+use Rattle.plane_core.proofs.Names.{List, Numbered, SquareRow, ap, arith, length, subst, sym, ◌+◌, ◌<◌, ◌^◌, ◌∙◌}
 use Rattle.plane_core.proofs.Shared.Numbering.{number_row-empty, number_row-insert, few_more}
 use Rattle.plane_core.proofs.walk.complete.Goals as goal
 

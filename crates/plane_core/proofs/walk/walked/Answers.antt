@@ -1,5 +1,4 @@
-use Rattle.std.proofs.Common.{length, sym, subst}
-use Rattle.plane_core.specs.Rows.{IsNumber}
+use Rattle.plane_core.proofs.Names.{IsNumber, length, subst, sym}
 use Rattle.plane_core.proofs.Shared.Roots.{rooted}
 use Rattle.plane_core.proofs.walk.walked.Goals as goal
 

@@ -1,6 +1,4 @@
-use Rattle.std.proofs.Common.{◌≡◌, ◌+◌, ◌*◌, ◌/◌, refl, sym, subst, ◌∙◌, arith}
-use Rattle.plane_core.specs.Strips.{IsOutOfRow}
-use Rattle.plane_core.specs.Woven.{AreMadeTo}
+use Rattle.plane_core.proofs.Names.{AreMadeTo, IsOutOfRow, arith, refl, subst, sym, ◌*◌, ◌+◌, ◌/◌, ◌∙◌, ◌≡◌}
 use Rattle.plane_core.proofs.Strips.{first_none}
 use Rattle.plane_core.proofs.Woven.{left-then, made-end, made-pair, made-row, one_answer, pair-row, row-next, same-later}
 use Rattle.plane_core.proofs.weave.doubled.Goals as goal

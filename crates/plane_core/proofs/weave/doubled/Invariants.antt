@@ -1,5 +1,4 @@
-use Rattle.std.proofs.Common.{◌+◌, ◌-◌, ◌*◌, ◌≤◌, ◌^◌}
-use Rattle.plane_core.specs.Woven.{AreMadeTo}
+use Rattle.plane_core.proofs.Names.{AreMadeTo, ◌*◌, ◌+◌, ◌-◌, ◌^◌, ◌≤◌}
 use Rattle.plane_core.proofs.Strips.{AreSameFrom}
 use Rattle.plane_core.proofs.weave.doubled.Given as goal
 

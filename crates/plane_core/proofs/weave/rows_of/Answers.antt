@@ -1,6 +1,4 @@
-use Rattle.std.proofs.Common.{◌∙◌, ap}
-use Rattle.plane_core.specs.Rows.{world_of_rows}
-use Rattle.plane_core.specs.Spans.{drawn}
+use Rattle.plane_core.proofs.Names.{ap, drawn, world_of_rows, ◌∙◌}
 use Rattle.plane_core.proofs.Shared.Roots.{world-none}
 use Rattle.plane_core.proofs.weave.rows_of.Goals as goal
 

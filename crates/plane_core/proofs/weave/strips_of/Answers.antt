@@ -1,7 +1,4 @@
-use Rattle.std.proofs.Common.{List, pos, sym, subst, get_or, take}
-use Rattle.std.proofs.lemmas.List.{take_more}
-use Rattle.plane_core.specs.declared.span.Span.{Span}
-use Rattle.plane_core.specs.Woven.{AreStripsOf}
+use Rattle.plane_core.proofs.Names.{AreStripsOf, List, Span, get_or, pos, subst, sym, take, take_more}
 use Rattle.plane_core.proofs.Weaving.{before-more, strips-more, strips-start}
 use Rattle.plane_core.proofs.weave.strips_of.Goals as goal
 

@@ -1,6 +1,4 @@
-use Rattle.std.proofs.Common.{take}
-use Rattle.plane_core.specs.Strips.{AreBefore}
-use Rattle.plane_core.specs.Woven.{AreStripsOf}
+use Rattle.plane_core.proofs.Names.{AreBefore, AreStripsOf, take}
 use Rattle.plane_core.proofs.weave.strips_of.Given as goal
 
 abbrev pub invariant-loop-span : goal.invariant-loop-span

@@ -1,10 +1,4 @@
-use Rattle.std.proofs.Common.{◌+◌, List, refl, sym, subst, arith}
-use Rattle.worlds.specs.World.{blank}
-use Rattle.plane_core.specs.declared.row.SquareRow.{SquareRow}
-use Rattle.plane_core.specs.declared.strip.Strip.{Strip}
-use Rattle.plane_core.specs.Part.{IsRoot}
-use Rattle.plane_core.specs.Spans.{drawn}
-use Rattle.plane_core.specs.Woven.{AreStripsOf, AreWoven}
+use Rattle.plane_core.proofs.Names.{AreStripsOf, AreWoven, IsRoot, List, SquareRow, Strip, arith, blank, drawn, refl, subst, sym, ◌+◌}
 use Rattle.plane_core.proofs.Weaving.{rows-of, some_of, woven-cells, woven-next}
 use Rattle.plane_core.proofs.weave.woven.Goals as goal
 

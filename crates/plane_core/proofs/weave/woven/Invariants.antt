@@ -1,7 +1,4 @@
-use Rattle.std.proofs.Common.{◌-◌, ◌≤◌}
-use Rattle.worlds.specs.World.{blank}
-use Rattle.plane_core.specs.Spans.{drawn}
-use Rattle.plane_core.specs.Woven.{AreWoven}
+use Rattle.plane_core.proofs.Names.{AreWoven, blank, drawn, ◌-◌, ◌≤◌}
 use Rattle.plane_core.proofs.weave.woven.Given as goal
 
 abbrev pub invariant-loop-level : goal.invariant-loop-level

@@ -1,7 +1,5 @@
-use Rattle.std.proofs.Common.{arith, rules}
-use Rattle.plane_core.specs.Part.{Covers}
+use Rattle.plane_core.proofs.Names.{Covers, arith, on_ok_weaker, rules}
 use Rattle.plane_core.proofs.Shared.Sound.{state-IsNumber}
-use Rattle.std.proofs.lemmas.Result.{on_ok_weaker}
 use Rattle.plane_core.proofs.Boxed.{gathers-none, gathers-empty, gathers-next, gathers-all, gathers-cell}
 use Rattle.plane_core.proofs.within.+gather_within.Goals as goal
 

@@ -1,6 +1,4 @@
-use Rattle.worlds.specs.World.{World}
-use Rattle.plane_core.specs.Part.{Shows}
-use Rattle.plane_core.specs.Within.{Gathers, InFirst}
+use Rattle.plane_core.proofs.Names.{Gathers, InFirst, Shows, World}
 use Rattle.plane_core.proofs.within.+gather_within.Given as goal
 
 abbrev pub decreases-gather_within : goal.decreases-gather_within

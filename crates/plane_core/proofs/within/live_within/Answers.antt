@@ -1,8 +1,4 @@
-use Rattle.std.proofs.Common.{List, subst}
-use Rattle.worlds.specs.declared.cell.Cell.{Cell}
-use Rattle.plane_core.specs.Rows.{world_of_rows}
-use Rattle.plane_core.specs.Part.{Covers}
-use Rattle.plane_core.specs.Within.{Gathers}
+use Rattle.plane_core.proofs.Names.{Cell, Covers, Gathers, List, subst, world_of_rows}
 use Rattle.plane_core.proofs.Boxed.{gathers-world}
 use Rattle.plane_core.proofs.within.live_within.Goals as goal
 

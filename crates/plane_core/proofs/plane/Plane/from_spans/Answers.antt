@@ -1,9 +1,4 @@
-use Rattle.std.proofs.Common.{◌≡◌, ◌∙◌, List, ap}
-use Rattle.plane_core.specs.declared.span.Span.{Span}
-use Rattle.worlds.specs.World.{blank}
-use Rattle.plane_core.specs.Spans.{drawn}
-use Rattle.plane_core.specs.Rows.{world_of_rows}
-use Rattle.std.proofs.lemmas.Result.{IfOk-weaker}
+use Rattle.plane_core.proofs.Names.{IfOk-weaker, List, Span, ap, blank, drawn, world_of_rows, ◌∙◌, ◌≡◌}
 use Rattle.plane_core.proofs.plane.Plane.from_spans.Goals as goal
 
 pub returns : goal.returns

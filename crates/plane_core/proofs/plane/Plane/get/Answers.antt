@@ -1,7 +1,4 @@
-use Rattle.std.proofs.Common.{◌≡◌, ap, ap₂, ◌∙◌, to_z-of_z, subst}
-use Rattle.worlds.specs.World.{cell}
-use Rattle.worlds.specs.Range.{HasMargin, cell-outside}
-use Rattle.plane_core.specs.Rows.{world_of_rows}
+use Rattle.plane_core.proofs.Names.{HasMargin, ap, ap₂, cell, cell-outside, subst, to_z-of_z, world_of_rows, ◌∙◌, ◌≡◌}
 use Rattle.plane_core.proofs.Shared.Roots.{margin}
 use Rattle.plane_core.proofs.plane.Plane.get.Goals as goal
 

@@ -1,7 +1,4 @@
-use Rattle.std.proofs.Common.{◌<◌, ◌^◌, List, [], ◌∷◌, length, sym, subst, ◌∙◌, ap, arith}
-use Rattle.std.proofs.lemmas.Result.{IfOk-weaker}
-use Rattle.plane_core.specs.declared.row.SquareRow.{SquareRow}
-use Rattle.plane_core.specs.Rows.{AreSquaresOf, written}
+use Rattle.plane_core.proofs.Names.{AreSquaresOf, IfOk-weaker, List, SquareRow, [], ap, arith, length, subst, sym, written, ◌<◌, ◌^◌, ◌∙◌, ◌∷◌}
 use Rattle.plane_core.proofs.Written.{squares-written}
 use Rattle.plane_core.proofs.plane.Plane.squares.Goals as goal
 
