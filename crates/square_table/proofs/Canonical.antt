@@ -1,15 +1,9 @@
 -- The rows of a plane: their levels, and their states.
-use Rattle.std.proofs.Common.{ℕ, zero, suc, ◌<◌, ◌≤◌, List, [], get_or, sym, subst, arith, ℤ}
-use Rattle.worlds.specs.World.{World}
-use Rattle.worlds.specs.Range.{AllBelow}
-use Rattle.worlds.specs.Square.{Square, one, four, square_at}
-use Rattle.plane_core.specs.declared.row.SquareRow.{SquareRow}
-use Rattle.plane_core.specs.Rows.{square_in, no_row, kid, AreSquaresOf, completed, root_level, root_of, world_of_rows, written}
-use Rattle.plane_core.proofs.Shared.Roots.{rooted}
-use Rattle.plane_core.proofs.Shared.Sound.{each_of_four}
-use Rattle.plane_core.proofs.Shared.Tidy.{number_square-levels}
+use Rattle.square_table.proofs.Names.{AllBelow, AreSquaresOf, CellsBelow, LevelsUpTo, List, Square, SquareRow, World, [], arith, completed, each_of_four, four, get_or, kid, no_row, number_square-levels, one, root_level, root_of, rooted}
+use Rattle.square_table.proofs.Names.{row_square, subst, suc, sym, world_of_rows, written, zero, ℕ, ℤ, ◌<◌, ◌≤◌}
+use Rattle.worlds.specs.Square.{square_at}
+use Rattle.plane_core.specs.Rows.{square_in}
 use Rattle.square_table.specs.Made.{HoldsWithin}
-use Rattle.square_table.specs.Loading.{LevelsUpTo, CellsBelow, row_square}
 use Rattle.square_table.proofs.Listing.{each_square}
 use Rattle.square_table.proofs.Shared.Centring.{root_centred}
 

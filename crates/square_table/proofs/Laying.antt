@@ -1,15 +1,13 @@
 -- Squares of a table with a quadtree laid on them.
-use Rattle.std.proofs.Common.{◌≡◌, ℕ, zero, suc, ◌+◌, ◌-◌, ◌^◌, ◌<◌, nat_lt, true, false, cond, List, [], ◌∷◌, length, get_or, get_or-set_same, get_or-set_other, None, unwrap_or, ℤ, pos, ◌+ℤ◌, Result, sym, ap, ap₂, ◌∙◌, subst, arith, lit<}
-use Rattle.std.specs.Prelude.{IfOk}
-use Rattle.std.proofs.lemmas.Int.{ints}
+use Rattle.square_table.proofs.Names.{AreLaidAs, AreNumbers, Cells, Grows, HasLevel, IfOk, IsLaidAs, IsSquareOf, List, None, Quadtree, Result, Square, Table, [], ap, ap₂, arith, at, cell, cond, false, first_number, four, get_or}
+use Rattle.square_table.proofs.Names.{in_quadrant, ints, keep, kids_at, laid, length, lit<, nat_lt, one, pos, quad, square_of, state_at, subst, suc, sym, true, unwrap_or, zero, ℕ, ℤ, ◌+ℤ◌, ◌+◌, ◌-◌, ◌<◌, ◌^◌, ◌∙◌, ◌∷◌, ◌≡◌}
+use Rattle.std.proofs.Common.{get_or-set_same, get_or-set_other}
 use Rattle.std.proofs.lemmas.Bool.Decides.{nat_tests}
 use Rattle.std.proofs.Math.Nat.{pow-suc}
 use Rattle.std.proofs.Math.ListN.{set}
-use Rattle.worlds.specs.Square.{Square, one, four, IsSquare}
-use Rattle.square_tree.specs.Cells.{Cells, state_at}
-use Rattle.square_tree.specs.Quadtree.{Quadtree, keep, cell, quad, HasLevel, at}
-use Rattle.square_table.specs.Squares.{Table, IsNumber, AreNumbers, square_in, square_of, kids_at, first_number, IsSquareOf, Grows}
-use Rattle.square_table.specs.Laying.{laid_at, laid, IsLaidAs, AreLaidAs, in_quadrant}
+use Rattle.worlds.specs.Square.{IsSquare}
+use Rattle.square_table.specs.Squares.{IsNumber, square_in}
+use Rattle.square_table.specs.Laying.{laid_at}
 use Rattle.square_table.proofs.Shared.Growth.{Grows-same, Grows-then, IsNumber-grows, square_in-grows, AreNumbers-grows, square_of-grows, IsNumber-joined, square_in-joined, AreNumbers-quadrants, square_in-quadrants}
 use Rattle.square_table.proofs.Loading.{IsNumber-state, square_in-cell}
 

@@ -8,3 +8,4 @@ pub mod Middles
 pub mod Canonical
 pub mod Renumbered
 pub mod Packing
+pub mod Names

@@ -1,16 +1,11 @@
 -- The rows of a plane are of squares that its root is made of.
-use Rattle.std.proofs.Common.{◌≡◌, ℕ, zero, suc, ◌+◌, ◌-◌, ◌<◌, ◌≤◌, Bool, true, false, List, [], ◌∷◌, ◌++◌, length, get_or, refl, sym, ap, subst, arith, inl, inr}
-use Rattle.std.specs.List.{list_any, position_or_len}
-use Rattle.std.proofs.lemmas.Bool.{cases_lt}
-use Rattle.std.proofs.lemmas.List.{length_push, get_or_push}
-use Rattle.worlds.specs.Square.{Square, one, four, IsSquare}
-use Rattle.plane_core.specs.declared.row.SquareRow.{SquareRow}
-use Rattle.plane_core.specs.Rows.{no_row, AreRows, IsNumber, square_in, number_row, number_square, numbered, same_row, root_level, root_of, AreCanonical, completed, written}
-use Rattle.plane_core.proofs.Shared.Numbering.{Grows, Grows-more, not_found}
-use Rattle.plane_core.proofs.Shared.Sound.{row_kept, square_in-grown, EachHas, number_square-sound, quadrants-sound, AreRows-none, EachHas-none, row_of, listed-number}
-use Rattle.plane_core.proofs.Shared.Roots.{rooted, root-IsSquare}
+use Rattle.square_table.proofs.Names.{AreCanonical, AreRows, AreRows-none, Bool, EachHas, EachHas-none, Grows-more, List, Square, SquareRow, [], ap, arith, cases_lt, completed, false, four, get_or, get_or_push, inl, inr, length}
+use Rattle.square_table.proofs.Names.{length_push, list_any, listed-number, no_row, not_found, number_square-sound, numbered, one, position_or_len, quadrants-sound, refl, root-IsSquare, root_of, rooted, row_kept, row_of, row_square}
+use Rattle.square_table.proofs.Names.{same_row, square_in-grown, subst, suc, sym, true, written, zero, ℕ, ◌++◌, ◌+◌, ◌-◌, ◌<◌, ◌∷◌, ◌≡◌, ◌≤◌}
+use Rattle.worlds.specs.Square.{IsSquare}
+use Rattle.plane_core.specs.Rows.{IsNumber, square_in, number_row, number_square, root_level}
+use Rattle.plane_core.proofs.Shared.Numbering.{Grows}
 use Rattle.square_table.specs.Made.{HoldsWithin}
-use Rattle.square_table.specs.Loading.{row_square}
 
 -- a row has the number behind its place
 row_number : (rows : List SquareRow) (i : ℕ) → AreRows rows → i < length rows → IsNumber rows (get_or rows i no_row).level (suc i)

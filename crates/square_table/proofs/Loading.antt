@@ -1,18 +1,12 @@
 -- The squares of a plane's rows, made in a table one by one.
-use Rattle.std.proofs.Common.{◌≡◌, ℕ, zero, suc, ◌+◌, ◌-◌, ◌<◌, ◌≤◌, List, [], ◌∷◌, ◌++◌, length, get_or, refl, sym, ap, ◌∙◌, subst, arith, inl, inr, lit<}
-use Rattle.std.specs.Prelude.{Contains}
-use Rattle.std.proofs.lemmas.Bool.{cases_lt}
-use Rattle.std.proofs.lemmas.List.{length_push, get_or_append_left, get_or_push}
-use Rattle.worlds.specs.Square.{Square, one, four, empty_square, cell_in}
-use Rattle.plane_core.specs.declared.row.SquareRow.{SquareRow}
+use Rattle.square_table.proofs.Names.{AllStatesBelow, AreBlanks, AreLoaded, AreNumbers, AreRows, CellsBelow, Contains, Grows, GrowsBy, GrowsFrom, HasEmpty, HasRows, IsAmong, IsLoadedAt, IsNumber-level, IsSquareOf, LevelsUpTo, List, Square}
+use Rattle.square_table.proofs.Names.{SquareRow, Table, [], ap, arith, cases_lt, cell_in, cell_in-one, first_number, four, get_or, get_or_append_left, get_or_push, inl, inr, kid, length, length_push, lit<, no_row, one, refl, square_in-none}
+use Rattle.square_table.proofs.Names.{square_in-row, square_in-state, square_of, state-IsNumber, subst, suc, sym, zero, ℕ, ◌++◌, ◌+◌, ◌-◌, ◌<◌, ◌∙◌, ◌∷◌, ◌≡◌, ◌≤◌}
+use Rattle.worlds.specs.Square.{empty_square}
 use Rattle.plane_core.specs.Rows as listed
-use Rattle.plane_core.specs.Rows.{no_row, kid, AreRows}
-use Rattle.plane_core.proofs.Shared.Cells.{cell_in-one}
-use Rattle.plane_core.proofs.Shared.Sound.{IsNumber-level, square_in-none, square_in-state, square_in-row, state-IsNumber}
-use Rattle.plane_core.proofs.Shared.Measuring.{kid_is}
-use Rattle.square_table.specs.Squares.{Table, IsNumber, AreNumbers, square_in, square_of, first_number, IsSquareOf, Grows, GrowsBy, AllStatesBelow}
-use Rattle.square_table.specs.Made.{IsAmong, HasEmpty}
-use Rattle.square_table.specs.Loading.{AreBlanks, IsLoadedAt, AreLoaded, number_in, LevelsUpTo, CellsBelow, GrowsFrom, HasRows}
+use Rattle.plane_core.proofs.Shared.Kids.{kid_is}
+use Rattle.square_table.specs.Squares.{IsNumber, square_in}
+use Rattle.square_table.specs.Loading.{number_in}
 use Rattle.square_table.proofs.Shared.Tables.{kept_row, last_row}
 use Rattle.square_table.proofs.Shared.Making.{notes_joined, AreAmong-joined, IsFor, IsAmong-for}
 use Rattle.square_table.proofs.Shared.Growth.{Grows-same, Grows-then, IsNumber-grows, square_in-grows, AreNumbers-grows, square_of-grows, IsNumber-joined, square_in-joined}

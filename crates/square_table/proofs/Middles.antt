@@ -1,17 +1,13 @@
 -- A quadtree in a corner of a larger square, and round its middle.
-use Rattle.std.proofs.Common.{◌≡◌, ℕ, zero, suc, ◌+◌, ◌-◌, ◌*◌, ◌^◌, ◌<◌, ◌≤◌, nat_lt, ◌||◌, Bool, cond, Option, None, pos, ◌+ℤ◌, refl, sym, ap, ap₂, ◌∙◌, arith}
-use Rattle.std.proofs.lemmas.Int.{ints}
+use Rattle.square_table.proofs.Names.{Bool, Cells, HasLevel, IsHeld, IsLaidAs, IsLaidOn, None, Option, Quadtree, Table, ap, ap₂, arith, at, cell, cells_of, cond, in_corner, in_middle, in_quadrant, ints, keep, least, level_of, nat_lt}
+use Rattle.square_table.proofs.Names.{number_of, pos, quad, reach, refl, square_in, state_at, suc, sym, zero, ℕ, ◌*◌, ◌+ℤ◌, ◌+◌, ◌-◌, ◌<◌, ◌^◌, ◌||◌, ◌∙◌, ◌≡◌, ◌≤◌}
 use Rattle.std.proofs.Math.Pow.{pow_mono}
-use Rattle.square_tree.specs.Cells.{Cells, state_at, least, reach}
-use Rattle.square_tree.specs.Quadtree.{Quadtree, keep, cell, quad, HasLevel, at}
 use Rattle.square_tree.specs.Over.{over}
 use Rattle.square_tree.specs.Laid.{IsLaid, at_from}
 use Rattle.square_tree.specs.TreeOf.{IsTreeOf}
 use Rattle.square_tree.proofs.Shared.Placed.{double, split, or_none, none_or, at_from_west, at_from_north, at_from_move_x, at_from_move_y, laid_nw, laid_ne, laid_sw, laid_all}
 use Rattle.square_tree.proofs.Shared.Quarters.{laid_quadrants, laid_where, laid_keep, reach_half, reach_mono}
 use Rattle.square_table.specs.declared.square.Square.{Square}
-use Rattle.square_table.specs.Squares.{Table, IsHeld, square_in, level_of, number_of, cells_of}
-use Rattle.square_table.specs.Laying.{in_quadrant, in_corner, in_middle, IsLaidOn, IsLaidAs}
 use Rattle.square_table.proofs.Laying.{square_in-IsSquare, laid-says}
 
 -- what is laid in the south-east quadrant is laid on the square

@@ -1,10 +1,8 @@
 -- What is noted in rows.
-use Rattle.std.proofs.Common.{◌≡◌, ℕ, zero, suc, ◌+◌, ◌-◌, ◌*◌, ◌/◌, ◌%◌, ◌<◌, ◌≤◌, List, [], ◌∷◌, ◌++◌, length, map, get_or, slice_set, take, drop, replicate, refl, sym, ◌∙◌, ap, arith}
-use Rattle.std.proofs.lemmas.Grind.{common_steps}
-use Rattle.std.proofs.lemmas.List.{append_assoc, length-append, get_or-set_same, map-set, set-get_or, set-append_left, map_push, get_or-map, get_or_append_left, length-map, length-set, length_push, length-replicate, replicate-append-replicate}
-use Rattle.square_table.specs.declared.row.Row.{Row}
-use Rattle.square_table.specs.Squares.{Table, first_number, with_row, with_note, without_notes}
-use Rattle.square_table.specs.Rows.{note_range, kids_in, note_of, note_in, kids_of, notes_of}
+use Rattle.square_table.proofs.Names.{List, Row, Table, [], ap, append_assoc, arith, common_steps, drop, first_number, get_or, get_or-map, get_or-set_same, kids_in, kids_of, length, length-append, length-map, length-replicate, length-set}
+use Rattle.square_table.proofs.Names.{length_push, map, map-set, map_push, note_in, note_range, notes_of, refl, replicate, replicate-append-replicate, set-append_left, set-get_or, slice_set, suc, sym, take, with_note, with_row}
+use Rattle.square_table.proofs.Names.{without_notes, zero, ℕ, ◌%◌, ◌*◌, ◌++◌, ◌+◌, ◌-◌, ◌/◌, ◌<◌, ◌∙◌, ◌∷◌, ◌≡◌, ◌≤◌}
+use Rattle.square_table.specs.Rows.{note_of}
 
 abbrev pub no_row : Row
 no_row = record { words = [] }
@@ -18,10 +16,6 @@ pub note_four : (a b c d : ℕ) → note_of (a ∷ b ∷ c ∷ d ∷ []) ≡ a /
 unfolding note_of
 note_four a b c d = refl
 
-pub note_none : note_of [] ≡ 0
-unfolding note_of
-note_none = refl
-
 -- a row that is set to one with the same quadrants
 pub kids_of-set : (rows : List Row) (p : ℕ) (r : Row) → p < length rows → kids_in r ≡ kids_in (get_or rows p no_row) → kids_of (slice_set rows p r) ≡ kids_of rows
 kids_of-set rows p r there same =
@@ -32,11 +26,6 @@ pub notes_of-push : (rows : List Row) (r : Row) (limit : ℕ) → note_in r ≡ 
 notes_of-push rows r limit none room =
     let left : limit - length rows ≡ suc (limit - length (rows ++ r ∷ [])) = omega (arith, room, length_push rows r) in
     rw (map_push note_in rows r, none, left, append_assoc (map note_in rows) (0 ∷ []) (replicate (limit - length (rows ++ r ∷ [])) 0)) refl
-
--- what is noted in a row, among the notes of all
-pub notes_of-at : (rows : List Row) (i limit : ℕ) (d : Row) → i < length rows → get_or (notes_of rows limit) i 0 ≡ note_in (get_or rows i d)
-notes_of-at rows i limit d there =
-    get_or_append_left (map note_in rows) (replicate (limit - length rows) 0) 0 i (omega (arith, there, length-map rows note_in)) ∙ get_or-map note_in rows i d 0 there
 
 -- where it is noted instead
 pub notes_of-set : (rows new : List Row) (i r limit : ℕ) → i < length rows → map note_in new ≡ slice_set (map note_in rows) i r → notes_of new limit ≡ slice_set (notes_of rows limit) i r

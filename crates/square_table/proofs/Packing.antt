@@ -1,32 +1,23 @@
 -- The squares of a table that are packed as the rows of a plane.
-use Rattle.std.proofs.Common.{◌≡◌, ℕ, zero, suc, ◌+◌, ◌-◌, ◌<◌, ◌≤◌, ◌^◌, ◌⊎◌, Bool, true, false, List, [], ◌∷◌, ◌++◌, length, get_or, Option, Some, None, refl, sym, ap, ◌∙◌, subst, arith, inl, inr}
-use Rattle.std.specs.Prelude.{IfSome}
-use Rattle.std.specs.List.{list_any, position_or_len}
-use Rattle.std.proofs.lemmas.Bool.{cases_eq, cases_lt}
-use Rattle.std.proofs.lemmas.List.{length_push, get_or_push}
-use Rattle.worlds.specs.Square.{Square, one, four, empty_square, IsSquare}
-use Rattle.plane_core.specs.declared.row.SquareRow.{SquareRow}
+use Rattle.square_table.proofs.Names.{AreDistinct, AreNumbers, AreRows-none, Bool, EachHas-none, Grows-then, Has-again, Has-grown, IfSome, IsListed, IsNumber, IsPacking, IsPadded, IsSeen, IsSound, IsSquare, IsSquare-parts, List, None}
+use Rattle.square_table.proofs.Names.{Numbered, Option, Packs, Quarters, Some, Square, SquareRow, Stamps, WalksFour, [], ap, arith, cases_eq, cases_lt, centred, completed, empty_square, false, first_number, found_at, found_within, four}
+use Rattle.square_table.proofs.Names.{get_or, get_or_push, inl, inr, kid, kids_at, known_of, known_range, length, length-set, length_push, list_any, no_row, not_found, number_row, number_row-grows, number_row-is, number_square-grows}
+use Rattle.square_table.proofs.Names.{number_square-levels, number_square-sound, numbered, one, position_or_len, refl, row_kept, same_kids, same_row, square_in, square_of, subst, suc, sym, true, walks-quadrants, with_known, zero, ℕ, ◌++◌}
+use Rattle.square_table.proofs.Names.{◌+◌, ◌-◌, ◌<◌, ◌∙◌, ◌∷◌, ◌≡◌, ◌≤◌, ◌⊎◌}
 use Rattle.plane_core.specs.Rows as listed
-use Rattle.plane_core.specs.Rows.{AreRows, Numbered, no_row, kid, numbered, number_row, number_square, same_row, same_kids, completed}
+use Rattle.plane_core.specs.Rows.{number_square}
 use Rattle.plane_core.specs.Walks.{Has, Walks}
-use Rattle.plane_core.specs.Centre.{centred}
-use Rattle.plane_core.proofs.Shared.Cells.{IsSquare-parts}
-use Rattle.plane_core.proofs.Shared.Numbering.{Grows, Grows-then, Has-again, Has-grown, number_row-grows, number_row-is, number_square-grows, not_found}
+use Rattle.plane_core.proofs.Shared.Numbering.{Grows}
 use Rattle.plane_core.proofs.Shared.Sound as sound
-use Rattle.plane_core.proofs.Shared.Sound.{IsSound, EachHas-none, AreRows-none, number_square-sound, found_within, found_at, row_kept, walks-quadrants}
 use Rattle.plane_core.proofs.Shared.Tidy as tidy
-use Rattle.plane_core.proofs.Shared.Tidy.{IsListed, LevelsUpTo, number_square-levels}
-use Rattle.square_table.specs.Squares.{IsNumber, AreNumbers, AreDistinct, square_in, square_of, kids_at}
+use Rattle.plane_core.proofs.Shared.Tidy.{LevelsUpTo}
 use Rattle.square_table.specs.declared.pack.Packed.{Packed}
-use Rattle.square_table.specs.declared.pack.Quarters.{Quarters}
-use Rattle.square_table.specs.declared.renumbering.Renumbered.{Renumbered}
-use Rattle.square_table.specs.Renumbering.{entry, known_of}
-use Rattle.square_table.specs.Packing.{IsSeen, IsPacking, IsPadded, Packs, WalksFour}
 use Rattle.square_table.proofs.Shared.Numbers.{one_level, one_number}
+use Rattle.square_table.proofs.Shared.Tables.{above_zero}
 use Rattle.square_table.proofs.Shared.Growth.{AreNumbers-quadrants, square_in-quadrants}
 use Rattle.square_table.proofs.Laying.{square_in-IsSquare}
 use Rattle.square_table.proofs.Listing.{row_square-kept}
-use Rattle.square_table.proofs.Renumbered.{known_last, known_other}
+use Rattle.square_table.proofs.Renumbered.{known_same, known_other}
 use Rattle.square_table.proofs.Loading.{square_in-cell, empty_square-zero, empty_square-suc}
 
 -- four numbers of a level
@@ -45,12 +36,21 @@ unfolding number_square
 state-walk rows s = refl
 
 -- a cell is packed as its state
-pub packed_state : (rows : List (List ℕ)) (done : List SquareRow) (k n : ℕ) → k ≡ 0 → Walks k (square_in rows k n) done done n
+packed_state : (rows : List (List ℕ)) (done : List SquareRow) (k n : ℕ) → k ≡ 0 → Walks k (square_in rows k n) done done n
 packed_state q0 q1 q2 q3 q4 = grind (arith, square_in-cell, state-walk)
+
+pub packed_states : (rows : List (List ℕ)) (done : List SquareRow) (k : ℕ) (kids : List ℕ) → k ≡ 0 → length kids ≡ 4 → WalksFour rows k kids done done kids
+packed_states rows done k kids is count =
+    let walk = λ (n : ℕ). packed_state rows done k n is in
+    record { count = count; first = done; second = done; third = done; nw = walk _; ne = walk _; sw = walk _; se = walk _ }
 
 -- a square that is remembered adds nothing
 pub recalled : (rows : List (List ℕ)) (packed : Packed) (k n m : ℕ) → 0 < k → IsPacking rows packed → IsNumber rows k n → known_of packed.numbers n ≡ Some m → Walks k (square_in rows k n) packed.squares.items packed.squares.items m
 recalled rows packed k n m low packing is e = subst (λ (o : Option ℕ). IfSome o (Has k (square_in rows k n) packed.squares.items)) e (packing.known k n low is)
+
+-- its stamp has a place
+pub packed_there : (rows : List (List ℕ)) (packed : Packed) (k n : ℕ) → 1 ≤ k → IsPacking rows packed → IsNumber rows k n → n < length packed.numbers.stamps
+packed_there q0 q1 q2 q3 q4 q5 q6 = grind (arith, above_zero)
 
 pub packs_none : (rows : List (List ℕ)) (k : ℕ) (packed : Packed) → IsPacking rows packed → Packs rows k packed packed
 packs_none rows k packed packing = record { packing = packing; above = λ j n h is. refl }
@@ -163,12 +163,12 @@ known_kept rows old new k n (Some m) grows h = Has-grown k (square_in rows k n) 
 module _ (rows : List (List ℕ)) (mid new : Packed) (level n m : ℕ) (all : List ℕ)
     (packing : IsPacking rows mid) (is : IsNumber rows level n) (unknown : known_of mid.numbers n ≡ None)
     (er : (number_row (row_by level all) mid.squares.items).rows ≡ new.squares.items) (en : (number_row (row_by level all) mid.squares.items).number ≡ m)
-    (more : new.numbers ≡ mid.numbers ++ entry n m ∷ []) where
+    (there : n < length mid.numbers.stamps) (more : new.numbers ≡ with_known mid.numbers n m) where
   known_here : known_of new.numbers n ≡ Some m
-  known_here = ap (λ (entries : List Renumbered). known_of entries n) more ∙ known_last mid.numbers n m unknown
+  known_here = ap (λ (r : Stamps). known_of r n) more ∙ known_same mid.numbers n m there
 
   known_there : (q : ℕ) → (n ≡ q → ⊥) → known_of new.numbers q ≡ known_of mid.numbers q
-  known_there q other = ap (λ (entries : List Renumbered). known_of entries q) more ∙ known_other mid.numbers n m q other
+  known_there q other = ap (λ (r : Stamps). known_of r q) more ∙ known_other mid.numbers n m q other
 
   grown : Grows mid.squares.items new.squares.items
   grown = subst (Grows mid.squares.items) er (number_row-grows (row_by level all) mid.squares.items)
@@ -215,11 +215,12 @@ module _ (rows : List (List ℕ)) (mid new : Packed) (level n m : ℕ) (all : Li
 
 pub packed_more : (rows : List (List ℕ)) (old mid new : Packed) (level k n m : ℕ) (kids all : List ℕ) → level ≡ suc k → level ≤ 62 → IsPacking rows old → Packs rows k old mid → IsNumber rows level n → kids ≡ kids_at rows n
     → known_of old.numbers n ≡ None → WalksFour rows k kids old.squares.items mid.squares.items all
-    → (number_row (row_by level all) mid.squares.items).rows ≡ new.squares.items → (number_row (row_by level all) mid.squares.items).number ≡ m → length new.squares.items < 2 ^ 32
-    → new.numbers ≡ mid.numbers ++ entry n m ∷ [] → Packs rows level old new
+    → (number_row (row_by level all) mid.squares.items).rows ≡ new.squares.items → (number_row (row_by level all) mid.squares.items).number ≡ m → length new.squares.items < known_range
+    → new.numbers ≡ with_known mid.numbers n m → Packs rows level old new
 packed_more rows old mid new level k n m kids all e high packing packs is read none w er en few more =
     let last = new.squares.items in
     let unknown : known_of mid.numbers n ≡ None = packs.above level n (omega (arith, e)) is ∙ none in
+    let there = packed_there rows mid level n (omega (arith, e)) packs.packing is in
     let walk = walk_whole rows level k n kids all old.squares.items mid.squares.items last m e read w er en in
     let sounds : IsSound level (square_in rows level n) (record { rows = last; number = m }) =
     subst (IsSound level (square_in rows level n)) walk (number_square-sound level (square_in rows level n) old.squares.items packing.valid (record { has = packing.each }) (square_in-IsSquare rows level n is) high) in
@@ -230,17 +231,18 @@ packed_more rows old mid new level k n m kids all e high packing packs is read n
         valid = sounds.valid;
         each = sounds.each.has;
         few = few;
-        known = known_more rows mid new level n m all packs.packing is unknown er en more (walked_has level (square_in rows level n) old.squares.items last m walk);
-        seen = seen_more rows mid new level n m all packs.packing is unknown er en more new_row sounds.square;
+        room = rw (ap (λ (r : Stamps). r.stamps) more, length-set) packs.packing.room;
+        known = known_more rows mid new level n m all packs.packing is unknown er en there more (walked_has level (square_in rows level n) old.squares.items last m walk);
+        seen = seen_more rows mid new level n m all packs.packing is unknown er en there more new_row sounds.square;
       };
       above = λ j q h is_q.
           let other : n ≡ q → ⊥ = λ same. let alike : level ≡ j = one_level rows level j n is (subst (IsNumber rows j) (sym same) is_q) in absurd (omega (arith, h, alike)) in
-          known_there rows mid new level n m all packs.packing is unknown er en more q other ∙ packs.above j q (omega (arith, e, h)) is_q;
+          known_there rows mid new level n m all packs.packing is unknown er en there more q other ∙ packs.above j q (omega (arith, e, h)) is_q;
     }
 
 -- with nothing packed
-pub packing_none : (rows : List (List ℕ)) (packed : Packed) → AreDistinct rows → packed.squares.items ≡ [] → packed.numbers ≡ [] → IsPacking rows packed
-packing_none rows packed distinct none empty = grind (arith, AreRows-none, EachHas-none)
+pub packing_none : (rows : List (List ℕ)) (packed : Packed) → AreDistinct rows → packed.squares.items ≡ [] → ((n : ℕ) → known_of packed.numbers n ≡ None) → first_number + length rows ≤ length packed.numbers.stamps → IsPacking rows packed
+packing_none rows packed distinct none empty room = grind (arith, AreRows-none, EachHas-none)
 
 -- the rows of quadrants are of lower levels
 four_levels : (rows : List (List ℕ)) (k : ℕ) (kids all : List ℕ) (old new : List SquareRow) → old ≡ [] → WalksFour rows k kids old new all → LevelsUpTo k new

@@ -1,13 +1,9 @@
 -- Rows that slots lead to.
-use Rattle.std.proofs.Common.{◌≡◌, ℕ, zero, suc, ◌+◌, ◌-◌, ◌⊎◌, ◌<◌, List, [], ◌∷◌, ◌++◌, length, get_or, slice_index_or, slice_set, refl, sym, ◌∙◌, ap, subst, add-one, arith, inl, inr}
-use Rattle.std.proofs.lemmas.Bool.{cases_lt, cases_eq}
-use Rattle.std.proofs.lemmas.List.{get_or-set_same, get_or-set_other, get_or_append_left, get_or_push, length-map, length-set, length_push, map_push}
+use Rattle.square_table.proofs.Names.{FindsRows, IsFreeFor, IsUsed, Lacks, LeadsTo, List, Row, Slot, [], add-one, ap, arith, cases_eq, cases_lt, first_of, get_or, get_or-set_other, get_or-set_same, get_or_append_left, get_or_push, inl, inr}
+use Rattle.square_table.proofs.Names.{kids_in, kids_of, length, length-map, length-set, length_push, map_push, mark_of, next_of, refl, row_in, slice_index_or, slice_set, subst, suc, sym, tag_in, tag_of, zero, ℕ, ◌++◌, ◌+◌, ◌-◌, ◌<◌, ◌∙◌}
+use Rattle.square_table.proofs.Names.{◌∷◌, ◌≡◌, ◌⊎◌}
 use Rattle.std.proofs.lemmas.Nat.{and_le_r}
-use Rattle.square_table.specs.Squares.{Lacks}
-use Rattle.square_table.specs.declared.row.Row.{Row}
-use Rattle.square_table.specs.declared.slots.Slot.{Slot}
-use Rattle.square_table.specs.Rows.{kids_in, kids_of}
-use Rattle.square_table.specs.Slots.{mark_of, tag_of, tag_in, row_in, first_of, next_of, way, IsUsed, IsFreeFor, LeadsTo, FindsRows, AreEmpty}
+use Rattle.square_table.specs.Slots.{way}
 
 -- a way stays among the slots
 pub way_inside : (mark count steps : ℕ) → 0 < count → way mark count steps < count
@@ -42,15 +38,6 @@ finds_more rows kids slots is =
       tagged = λ s i d h at. is.tagged s i d h at ∙ ap (λ k. tag_of (mark_of k)) (sym (same i (omega (arith, at, is.within s d h))));
       led = λ i h. subst (λ k. LeadsTo slots (mark_of k) i) (sym (same i h)) (is.led i h);
     }
-
--- no row yet
-pub finds_none : (rows : List (List ℕ)) (slots : List Slot) → 0 < length slots → AreEmpty slots → FindsRows rows 0 slots
-finds_none rows slots some empty = record {
-  some = some;
-  within = λ s d h. omega (arith, empty s d h);
-  tagged = λ s i d h at. absurd (omega (arith, at, empty s d h));
-  led = λ i h. absurd (omega (arith, h));
-}
 
 -- one slot more of a way is in use
 pub used_next : (slots : List Slot) (mark steps : ℕ) → IsUsed slots mark steps → ((d : Slot) → 0 < row_in (slice_index_or slots (way mark (length slots) steps) d)) → IsUsed slots mark (steps + 1)

@@ -1,5 +1,5 @@
 -- Squares of a table that become the rows of a plane.
-use Rattle.std.specs.Prelude.{◌≡◌, ℕ, suc, ◌-◌, ◌<◌, ◌^◌, List, length, get_or, Some, IfSome}
+use Rattle.std.specs.Prelude.{◌≡◌, ℕ, suc, ◌+◌, ◌-◌, ◌<◌, ◌≤◌, List, length, get_or, Some, IfSome}
 use Rattle.worlds.specs.Square.{Square}
 use Rattle.plane_core.specs.declared.row.SquareRow.{SquareRow}
 use Rattle.plane_core.specs.Rows as listed
@@ -9,8 +9,8 @@ use Rattle.plane_core.specs.Centre.{centred}
 use Rattle.square_table.specs.declared.pack.Packed.{Packed}
 use Rattle.square_table.specs.declared.pack.Quarters.{Quarters}
 use Rattle.square_table.specs.declared.square.Square as squares
-use Rattle.square_table.specs.Renumbering.{known_of}
-use Rattle.square_table.specs.Squares.{Table, IsNumber, square_in, square_of, AreDistinct, level_of, cells_of}
+use Rattle.square_table.specs.Renumbering.{known_of, known_range}
+use Rattle.square_table.specs.Squares.{Table, first_number, IsNumber, square_in, square_of, AreDistinct, level_of, cells_of}
 use Rattle.square_table.specs.Centred.{CentredAlike}
 
 -- the square of the i-th row is one of the table, and its number is remembered
@@ -29,7 +29,8 @@ pub record IsPacking (rows : List (List ℕ)) (packed : Packed) : Type 0 where
   pub valid : listed.AreRows packed.squares.items
   pub each : (k n : ℕ) → listed.IsNumber packed.squares.items k n →
       Has k (listed.square_in packed.squares.items k n) packed.squares.items n
-  pub few : length packed.squares.items < 2 ^ 32
+  pub few : length packed.squares.items < known_range
+  pub room : first_number + length rows ≤ length packed.numbers.stamps
   pub known : (k n : ℕ) → 0 < k → IsNumber rows k n →
       IfSome (known_of packed.numbers n) (Has k (square_in rows k n) packed.squares.items)
   pub seen : (i : ℕ) → i < length packed.squares.items → IsSeen rows packed i

@@ -1,25 +1,26 @@
 -- New numbers of some squares of a table.
-use Rattle.std.specs.Prelude.{◌≡◌, ℕ, ◌<◌, ◌==◌, List, [], ◌∷◌, length, get_or, Option, None, Some, if◌then◌else◌}
-use Rattle.square_table.specs.declared.renumbering.Renumbered.{Renumbered}
+use Rattle.std.specs.Prelude.{ℕ, ◌+◌, ◌-◌, ◌^◌, ◌<◌, ◌≤◌, List, get_or, slice_set, nat_le, Option, None, Some, if◌then◌else◌}
 
--- a square's number in the table, and its new one
-abbrev pub entry : ℕ → ℕ → Renumbered
-entry number known = record { number = number; known = known }
+-- new numbers are below this
+abbrev pub known_range : ℕ
+known_range = 33554432
+
+-- what contracts see of a renumbering: the stamps by the numbers of squares, and the base from
+-- which on they tell new numbers
+pub record Stamps : Type 0 where
+  pub stamps : List ℕ
+  pub base : ℕ
 
 -- the new number of a square, if it has one
-abbrev pub known_of : List Renumbered → ℕ → Option ℕ
-known_of [] n = None
-known_of (e ∷ entries) n = if e.number == n then Some e.known else known_of entries n
+abbrev pub known_of : Stamps → ℕ → Option ℕ
+known_of r n = if nat_le r.base (get_or r.stamps n 0)
+    then Some (get_or r.stamps n 0 - r.base) else None
 
-abbrev pub no_entry : Renumbered
-no_entry = entry 0 0
+-- the renumbering where the square with the number n has the new number m
+abbrev pub with_known : Stamps → ℕ → ℕ → Stamps
+with_known r n m = record { stamps = slice_set r.stamps n (r.base + m); base = r.base }
 
--- the list says of an entry's square that its entry is the i-th
-pub record IsPlaced (places : List ℕ) (e : Renumbered) (i : ℕ) : Type 0 where
-  pub there : e.number < length places
-  pub place : get_or places e.number 0 ≡ i
-
--- so it is with each entry
-abbrev pub ArePlaced : List ℕ → List Renumbered → Type 0
-ArePlaced places entries =
-    (i : ℕ) → i < length entries → IsPlaced places (get_or entries i no_entry) i
+-- stamps are below a range above the base, which a word has room for
+pub record IsWithin (stamps : List ℕ) (base : ℕ) : Type 0 where
+  pub each : (n : ℕ) → get_or stamps n 0 < base + known_range
+  pub room : base + known_range ≤ 2 ^ 32

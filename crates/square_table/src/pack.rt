@@ -8,10 +8,10 @@ ghost use Rattle.plane_core.specs.Rows.{number_row, same_row, completed};
 ghost use Rattle.plane_core.specs.Walks.{Walks};
 ghost use Rattle.square_table.specs.Squares.{IsHeld, IsNumber, AreNumbers, square_in, level_of, cells_of};
 ghost use Rattle.square_table.specs.Centred.{IsCentred};
-ghost use Rattle.square_table.specs.Renumbering.{known_of};
+ghost use Rattle.square_table.specs.Renumbering.{known_of, known_range};
 ghost use Rattle.square_table.specs.Packing.{IsPacking, Packs, WalksFour, IsPadded, SharesSquare, IsAlike, square_by};
 
-use crate::renumbering::Renumbering;
+use crate::renumbering::{RANGE, Renumbering};
 use crate::slots::is_same;
 use crate::square::Square;
 use crate::table::SquareTable;
@@ -36,21 +36,24 @@ struct Packed {
 }
 
 // The number of a row that isn't among the others, of which it becomes the last; 0 where it is empty.
+#[inline(always)]
 fn complete(squares: &mut Vec<SquareRow>, row: SquareRow) -> Result<u32, AllocError>
     requires new { list_any (same_row row) squares.old.items ≡ false }
-    requires few { length squares.old.items < 2 ^ 32 }
+    requires few { length squares.old.items < known_range }
     ensures rows { OnOk result ((number_row row squares.old.items).rows ≡ squares.new.items) }
     ensures number { IfOk result (λ n. (number_row row squares.old.items).number ≡ n) }
-    ensures few { OnOk result (length squares.new.items < 2 ^ 32) }
+    ensures small { IfOk result (λ n. n < known_range) }
+    ensures few { OnOk result (length squares.new.items < known_range) }
 {
     if is_same(&row.kids, &[0; 4]) {
         return Ok(0);
     }
-    if squares.len() >= u32::MAX as usize {
+    let number = squares.len() as u32 + 1;
+    if number >= RANGE {
         return Err(AllocError);
     }
     squares.push(row)?;
-    Ok(squares.len() as u32)
+    Ok(number)
 }
 
 impl<'a> SquareTable<'a> {
@@ -165,6 +168,9 @@ impl<'a> SquareTable<'a> {
             packed.old.squares.items packed.new.squares.items) }
         ensures packs { OnOk result (Packs self.now.rows level packed.old packed.new) }
     {
+        if level == 0 {
+            return Ok(kids);
+        }
         let nw = self.pack_square(packed, level, kids[0])?;
         let ne = self.pack_square(packed, level, kids[1])?;
         let sw = self.pack_square(packed, level, kids[2])?;
@@ -172,22 +178,19 @@ impl<'a> SquareTable<'a> {
         Ok([nw, ne, sw, se])
     }
 
-    // The number of a square among the rows, packed or not. Most are, so that the look-up stands where
-    // four are asked for, and what it leads to doesn't.
+    // The number of a divided square among the rows, packed or not. Most are, so that the look-up
+    // stands where four are asked for, and what it leads to doesn't.
     #[tactic(auto, unfolding(crate::specs::Squares::IsNumber))]
     #[cycle(pack)]
     #[inline(always)]
     fn pack_square(&self, packed: &mut Packed, level: u8, number: u32) -> Result<u32, AllocError>
-        requires level { level ≤ 61 }
+        requires level { (1 ≤ level) × (level ≤ 61) }
         requires number { IsNumber self.now.rows level number }
         requires packed { IsPacking self.now.rows packed.old }
         ensures walks { IfOk result (Walks level (square_in self.now.rows level number)
             packed.old.squares.items packed.new.squares.items) }
         ensures packs { OnOk result (Packs self.now.rows level packed.old packed.new) }
     {
-        if level == 0 {
-            return Ok(number);
-        }
         if let Some(known) = packed.numbers.get(number) {
             return Ok(known);
         }
@@ -210,29 +213,31 @@ impl<'a> SquareTable<'a> {
     {
         let kids = self.pack_kids(packed, level - 1, self.quadrants(number))?;
         let known = complete(&mut packed.squares, SquareRow { level, kids })?;
-        packed.numbers.insert(number, known)?;
+        packed.numbers.insert(number, known);
         Ok(known)
     }
 
-    // Nothing is packed yet.
-    fn nothing(&self, places: Vec<u32>) -> Packed
-        ensures packing { IsPacking self.now.rows result }
-        ensures none { result.squares.items ≡ [] }
+    // Nothing is packed yet. It has room for as many rows as the packing before made, and some more.
+    fn nothing(&self, mut numbers: Renumbering) -> Result<Packed, AllocError>
+        ensures packing { IfOk result (IsPacking self.now.rows) }
+        ensures none { IfOk result (λ packed. packed.squares.items ≡ []) }
     {
-        Packed {
-            squares: Vec::new(self.alloc()),
-            numbers: Renumbering::new(self.alloc(), places),
-        }
+        numbers.begin(self.end() as usize)?;
+        let count = self.row_count();
+        Ok(Packed {
+            squares: Vec::with_capacity(self.alloc(), count.saturating_add(count / 8))?,
+            numbers,
+        })
     }
 
     // The rows that a walk of a square completes, packed by a list that may have served before.
-    fn pack_rows(&self, root: Quarters, places: Vec<u32>) -> Result<Packed, AllocError>
+    fn pack_rows(&self, root: Quarters, numbers: Renumbering) -> Result<Packed, AllocError>
         requires level { (1 ≤ root.level) × (root.level ≤ 62) }
         requires numbers { AreNumbers self.now.rows (root.level - 1) root.kids }
         ensures { IfOk result (λ packed.
             completed root.level (square_by self.now.rows root) ≡ packed.squares.items) }
     {
-        let mut packed = self.nothing(places);
+        let mut packed = self.nothing(numbers)?;
         let kids = self.pack_kids(&mut packed, root.level - 1, root.kids)?;
         let row = SquareRow {
             level: root.level,
@@ -245,7 +250,8 @@ impl<'a> SquareTable<'a> {
     /// The plane whose cells round (0, 0) are those of the square, of a level of at least 1.
     ///
     /// It costs a step and some bytes for each distinct square in it, however many others the table
-    /// holds. It is refused for memory alone, and leaves the table as it was.
+    /// holds; but those that came since the packing before cost four bytes each. It is refused for
+    /// memory alone, and leaves the table as it was.
     pub fn pack(&mut self, square: Square<'a>) -> Result<Plane, AllocError>
         requires held { IsHeld self.old square }
         requires level { 1 ≤ level_of square }
@@ -255,9 +261,9 @@ impl<'a> SquareTable<'a> {
             IsCentred plane (level_of square.entry) (cells_of self.old square.entry)) }
         ensures same { self.new ≡ self.old }
     {
-        let places = self.take_places();
-        let packed = self.pack_rows(self.root(square), places)?;
-        self.keep_places(packed.numbers.into_places());
+        let numbers = self.take_numbers();
+        let packed = self.pack_rows(self.root(square), numbers)?;
+        self.keep_numbers(packed.numbers, packed.squares.len());
         Plane::from_walked(self.alloc(), packed.squares)
     }
 }

@@ -1,97 +1,91 @@
 //! New numbers for some of a table's squares.
 //!
-//! A sparse set (P. Briggs and L. Torczon, An Efficient Representation for Sparse Sets, 1993): a list
-//! by the squares' numbers says where a square's entry would stand, and what stands there tells
-//! whether it is one. So such a list serves one set after another, and nobody has to clear it.
-ghost use Rattle.std.specs.Prelude.{◌≡◌, ◌++◌, [], ◌∷◌, ◌<◌, List, None, OnOk, length};
-ghost use Rattle.square_table.specs.Renumbering.{ArePlaced, entry, known_of};
-ghost use Rattle.square_table.specs.declared.renumbering.Renumbered.{Renumbered};
+//! A list by the squares' numbers has a stamp for each square, and those from a base on tell new
+//! numbers. Whoever renumbers anew takes a base beyond all stamps, so that they say nothing any
+//! more. So the list is cleared only where no such base is left, once in 126 times.
+ghost use Rattle.std.specs.Prelude.{◌≡◌, ℕ, ◌<◌, ◌≤◌, None, OnOk, get_or, length};
+ghost use Rattle.square_table.specs.Renumbering.{IsWithin, Stamps, known_of, known_range, with_known};
 
 use std::alloc::{AllocError, Global};
 use std::marker::Model;
 
-/// A square's number in the table, and its new one.
-#[derive(Clone, Copy)]
-pub struct Renumbered {
-    pub number: u32,
-    pub known: u32,
-}
+/// New numbers are below it.
+pub const RANGE: u32 = 1 << 25;
+
+// The base behind this one has room for its range too.
+const LAST_BASE: u32 = u32::MAX - 2 * RANGE;
 
 /// The new numbers of squares.
 ///
-/// Contracts see its entries, in the order in which they came.
+/// Contracts see the stamps by the squares' numbers, and the base.
 #[derive(Drop)]
 pub struct Renumbering {
-    places: Vec<u32>,
-    entries: Vec<Renumbered>,
+    stamps: Vec<u32>,
+    base: u32,
 }
 
 impl Model for Renumbering {
-    ghost use Rattle.std.specs.Prelude.{List};
-    ghost use Rattle.square_table.specs.declared.renumbering.Renumbered.{Renumbered};
-    ghost use Rattle.square_table.specs.Renumbering.{ArePlaced};
+    ghost Value = { Stamps };
 
-    ghost Value = { List Renumbered };
+    ghost view = { λ r. record { stamps = r.stamps.items; base = r.base } };
 
-    ghost view = { λ r. r.entries.items };
-
-    ghost invariant = { λ r. ArePlaced r.places.items r.entries.items };
+    ghost invariant = { λ r. IsWithin r.stamps.items r.base };
 }
 
-// A list that has a place for a number. What it says of entries it says still.
-fn widen(places: &mut Vec<u32>, number: u32) -> Result<(), AllocError>
-    ensures there { OnOk result (number < length places.new.items) }
-    ensures placed { (entries : List Renumbered) → ArePlaced places.old.items entries
-        → ArePlaced places.new.items entries }
+// A list of at least so many stamps. Those that it had are the same.
+fn widen(stamps: &mut Vec<u32>, count: usize) -> Result<(), AllocError>
+    ensures room { OnOk result (count ≤ length stamps.new.items) }
+    ensures same { (n : ℕ) → get_or stamps.new.items n 0 ≡ get_or stamps.old.items n 0 }
 {
-    let count = number as usize + 1;
-    if places.len() < count {
-        places.resize(count, 0)?;
+    if stamps.len() < count {
+        stamps.resize(count, 0)?;
     }
     Ok(())
 }
 
 impl Renumbering {
-    /// No square has a new number. The list may have served another renumbering.
-    pub fn new(alloc: Global, places: Vec<u32>) -> Renumbering
-        ensures { result ≡ [] }
-    {
+    /// No square has a new number.
+    pub fn new(alloc: Global) -> Renumbering {
         Renumbering {
-            places,
-            entries: Vec::new(alloc),
+            stamps: Vec::new(alloc),
+            base: RANGE,
         }
     }
 
-    /// The list, for the next renumbering.
-    pub fn into_places(self) -> Vec<u32> {
-        self.places
+    /// Begins anew, for squares with numbers below `count`: none of them has a new number.
+    pub fn begin(&mut self, count: usize) -> Result<(), AllocError>
+        ensures room { OnOk result (count ≤ length self.new.stamps) }
+        ensures none { OnOk result ((n : ℕ) → known_of self.new n ≡ None) }
+    {
+        if self.base <= LAST_BASE {
+            self.base += RANGE;
+        } else {
+            self.stamps.clear();
+            self.base = RANGE;
+        }
+        widen(&mut self.stamps, count)
     }
 
     /// The new number of a square, if it has one.
+    #[inline(always)]
     pub fn get(&self, number: u32) -> Option<u32>
+        requires { number < length self.now.stamps }
         ensures { result ≡ known_of self.now number }
     {
-        let place = *self.places.get(number as usize)?;
-        let entry = self.entries.get(place as usize)?;
-        if entry.number == number {
-            Some(entry.known)
-        } else {
-            None
+        let stamp = self.stamps[number as usize];
+        if stamp >= self.base {
+            return Some(stamp - self.base);
         }
+        None
     }
 
-    /// Gives a square a new number, which has none.
-    pub fn insert(&mut self, number: u32, known: u32) -> Result<(), AllocError>
-        requires new { known_of self.old number ≡ None }
-        ensures { OnOk result (self.new ≡ self.old ++ entry number known ∷ []) }
+    /// Gives a square a new number.
+    #[inline(always)]
+    pub fn insert(&mut self, number: u32, known: u32)
+        requires there { number < length self.old.stamps }
+        requires small { known < known_range }
+        ensures { self.new ≡ with_known self.old number known }
     {
-        let place = self.entries.len();
-        if place > u32::MAX as usize {
-            return Err(AllocError);
-        }
-        widen(&mut self.places, number)?;
-        self.entries.push(Renumbered { number, known })?;
-        self.places[number as usize] = place as u32;
-        Ok(())
+        self.stamps[number as usize] = self.base + known;
     }
 }

@@ -8,6 +8,7 @@ ghost use Rattle.square_table.specs.Loading.{GrowsFrom};
 ghost use Rattle.square_table.specs.declared.square.Square.{Square};
 
 use crate::fault::TableFault;
+use crate::renumbering::Renumbering;
 use crate::row::{Row, forget, note};
 use crate::slots::{Slot, append, empty, free_slots, is_same, mark, marked, search, widen};
 use crate::square::Square;
@@ -33,7 +34,9 @@ pub struct SquareTable<'a> {
     rows: Vec<Row>,
     slots: Vec<Slot>,
     // What a packing renumbers squares by, for the next one.
-    places: Vec<u32>,
+    numbers: Renumbering,
+    // How many rows the packing before made, as the next one may.
+    row_count: usize,
     limit: u32,
     alloc: Global,
 }
@@ -83,7 +86,8 @@ impl<'a> SquareTable<'a> {
             none: placed(arena, [0; 4])?,
             rows: Vec::new(alloc),
             slots: free_slots(alloc, FEWEST_SLOTS)?,
-            places: Vec::new(alloc),
+            numbers: Renumbering::new(alloc),
+            row_count: 0,
             limit,
             alloc,
         })
@@ -105,18 +109,31 @@ impl<'a> SquareTable<'a> {
         self.alloc
     }
 
-    // What the packing before renumbered squares by.
-    pub(crate) fn take_places(&mut self) -> Vec<u32>
-        ensures { self.new ≡ self.old }
+    // The number behind those of all squares.
+    pub(crate) fn end(&self) -> u32
+        ensures { result ≡ first_number + length self.now.rows }
     {
-        std::mem::replace(&mut self.places, Vec::new(self.alloc))
+        FIRST_NUMBER + self.rows.len() as u32
     }
 
-    // The same, for the next packing.
-    pub(crate) fn keep_places(&mut self, places: Vec<u32>)
+    // How many rows the packing before made.
+    pub(crate) fn row_count(&self) -> usize {
+        self.row_count
+    }
+
+    // What the packing before renumbered squares by.
+    pub(crate) fn take_numbers(&mut self) -> Renumbering
         ensures { self.new ≡ self.old }
     {
-        self.places = places;
+        std::mem::replace(&mut self.numbers, Renumbering::new(self.alloc))
+    }
+
+    // The same, for the next packing, and how many rows this one made.
+    pub(crate) fn keep_numbers(&mut self, numbers: Renumbering, row_count: usize)
+        ensures { self.new ≡ self.old }
+    {
+        self.numbers = numbers;
+        self.row_count = row_count;
     }
 
     /// How many squares it holds, cells not counted.

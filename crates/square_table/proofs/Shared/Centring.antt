@@ -1,19 +1,11 @@
 -- Squares whose middle lies at the origin, and the worlds whose cells they have.
-use Rattle.std.proofs.Common.{◌≡◌, ℕ, zero, suc, ◌+◌, ◌-◌, ◌<◌, ◌≤◌, ◌^◌, List, [], ◌∷◌, get_or, sym, ap, ap₂, ◌∙◌, ◌⊎◌, subst, arith, inl, inr, pow_mono, ℤ, pos, neg_ℤ, ◌+ℤ◌}
-use Rattle.std.proofs.lemmas.Int.{ints}
-use Rattle.worlds.specs.World.{World, blank, cell, cell-blank, same_world}
-use Rattle.worlds.specs.Range.{HasMargin}
-use Rattle.worlds.specs.Square.{Square, four, IsSquare, IsIn, cell_in, put_square, square_at}
-use Rattle.plane_core.specs.declared.row.SquareRow.{SquareRow}
-use Rattle.plane_core.specs.Rows.{AreRows, root_level, root_of, world_of_rows}
-use Rattle.plane_core.proofs.Shared.Cells.{double, in_or_out, offsets, put_square-below, put_square-inside, put_square-outside, same_square, square_at-IsSquare, square_at-suc, square_at-cells, nw_of, ne_of, sw_of, se_of}
+use Rattle.square_table.proofs.Names.{AreRows, CentredAlike, HasMargin, IsCentred, IsIn, IsPadded, IsSquare, List, Quarters, Square, SquareRow, World, [], ap, ap₂, arith, blank, cell-blank, cell_in, centred, edge, four, get_or, in_or_out}
+use Rattle.square_table.proofs.Names.{inl, inr, ints, kids_at, neg_ℤ, offsets, pos, put_square, put_square-below, put_square-inside, put_square-outside, root-IsSquare, root_level, root_of, same_square, same_world, square_at}
+use Rattle.square_table.proofs.Names.{square_at-IsSquare, square_at-cells, square_at-suc, square_by, square_in, square_of, subst, suc, sym, world-root, world_of_rows, zero, ℕ, ℤ, ◌+ℤ◌, ◌+◌, ◌-◌, ◌<◌, ◌^◌, ◌∙◌, ◌∷◌, ◌≡◌, ◌≤◌, ◌⊎◌}
+use Rattle.std.proofs.Common.{pow_mono}
+use Rattle.worlds.specs.World.{cell}
+use Rattle.plane_core.proofs.Shared.Cells.{double, nw_of, ne_of, sw_of, se_of}
 use Rattle.plane_core.proofs.Shared.Centring.{around_centre}
-use Rattle.plane_core.proofs.Shared.Roots.{root-IsSquare, world-root}
-use Rattle.plane_core.specs.Centre.{centred}
-use Rattle.square_table.specs.Centred.{edge, IsCentred, CentredAlike}
-use Rattle.square_table.specs.Squares.{square_in, square_of, kids_at}
-use Rattle.square_table.specs.declared.pack.Quarters.{Quarters}
-use Rattle.square_table.specs.Packing.{IsPadded, square_by}
 use Rattle.square_table.proofs.Shared.Growth.{square_in-quadrants}
 
 dead : (w : World) (k : ℕ) (s : Square) (x y : ℤ) → IsCentred w k s → (IsIn (2 ^ k) (edge k) (edge k) x y → ⊥) → cell w x y ≡ 0

@@ -1,13 +1,10 @@
 -- Rows that are of given squares, where a table grows, and the different squares that they are.
-use Rattle.std.proofs.Common.{◌≡◌, ℕ, zero, suc, ◌+◌, List, [], ◌∷◌, ◌<◌, length, map, get_or, slice_index_or, refl, sym, ap, ◌∙◌, subst, arith, inl, inr}
-use Rattle.std.specs.Prelude.{Contains}
-use Rattle.std.proofs.lemmas.Bool.{cases_lt}
-use Rattle.std.proofs.lemmas.List.{get_or-map, length_push}
+use Rattle.square_table.proofs.Names.{Adds, AreAmong, AreFour, AreNumbers, Contains, Grows, GrowsBy, IsAmong, IsMade, IsSquareOf, List, Square, Table, [], ap, arith, cases_lt, first_number, get_or, get_or-map, inl, inr, joined, kid_at}
+use Rattle.square_table.proofs.Names.{length, length_push, map, number_of, refl, slice_index_or, square_of, subst, suc, sym, with_row, zero, ℕ, ◌+◌, ◌<◌, ◌∙◌, ◌∷◌, ◌≡◌}
 use Rattle.std.proofs.lemmas.List.Elements.{All-head}
-use Rattle.worlds.specs.Square.{Square}
-use Rattle.square_table.specs.Squares.{Table, IsNumber, AreNumbers, AreFour, square_in, square_of, kid_at, first_number, IsSquareOf, Grows, GrowsBy, with_row, joined, number_of}
+use Rattle.square_table.specs.Squares.{IsNumber, square_in}
 use Rattle.square_table.specs.declared.square.Square as handle
-use Rattle.square_table.specs.Made.{IsMade, IsAmong, AreAmong, Adds, HoldsWithin}
+use Rattle.square_table.specs.Made.{HoldsWithin}
 use Rattle.square_table.proofs.Shared.Tables.{last_row}
 use Rattle.square_table.proofs.Shared.Growth.{AreNumbers-grows, IsNumber-grows, IsNumber-joined, square_in-grows, square_in-joined, square_of-grows}
 

@@ -1,7 +1,6 @@
 -- Numbers and the squares that they stand for.
-use Rattle.std.proofs.Common.{◌≡◌, ℕ, zero, suc, ◌-◌, ◌<◌, List, length, get_or, refl, ap, arith}
-use Rattle.std.proofs.lemmas.Grind.{common_steps}
-use Rattle.square_table.specs.Squares.{IsNumber, square_in, kid_at, kids_at, first_number, AreDistinct, NumbersTellSquares}
+use Rattle.square_table.proofs.Names.{AreDistinct, List, NumbersTellSquares, ap, arith, common_steps, first_number, get_or, kid_at, kids_at, length, refl, suc, zero, ℕ, ◌-◌, ◌<◌, ◌≡◌}
+use Rattle.square_table.specs.Squares.{IsNumber, square_in}
 
 -- a number has one level
 pub one_level : (rows : List (List ℕ)) (j k n : ℕ) → IsNumber rows j n → IsNumber rows k n → j ≡ k

@@ -1,8 +1,6 @@
 -- Rows as numbers, and tables with one more row.
-use Rattle.std.proofs.Common.{◌≡◌, ℕ, zero, suc, ◌+◌, ◌<◌, ◌≤◌, List, [], ◌∷◌, ◌++◌, length, map, get_or, slice_index_or, refl, sym, ◌∙◌, arith}
-use Rattle.std.proofs.lemmas.Bool.{cases_lt}
-use Rattle.std.proofs.lemmas.List.{get_or-map, get_or_append_left, get_or_push, length-map, length_push}
-use Rattle.square_table.specs.Squares.{IsNumber, square_in, kid_at, first_number, AreDistinct, Lacks}
+use Rattle.square_table.proofs.Names.{List, [], arith, first_number, get_or, get_or_append_left, get_or_push, kid_at, length, length_push, refl, suc, sym, zero, ℕ, ◌++◌, ◌+◌, ◌<◌, ◌∷◌, ◌≡◌, ◌≤◌}
+use Rattle.square_table.specs.Squares.{IsNumber, square_in}
 
 -- an old row of a longer list
 pub kept_row : (rows : List (List ℕ)) (row : List ℕ) (i : ℕ) → i < length rows → get_or (rows ++ row ∷ []) i [] ≡ get_or rows i []
@@ -37,10 +35,3 @@ square_in-more rows row (suc k) n h =
 pub above_zero : (rows : List (List ℕ)) (k n : ℕ) → 0 < k → IsNumber rows k n → (first_number ≤ n) × (n < first_number + length rows)
 unfolding IsNumber
 above_zero rows k n some h = grind (arith)
-
--- a row that is new leaves the rows distinct
-pub AreDistinct-more : (rows : List (List ℕ)) (row : List ℕ) → AreDistinct rows → length row ≡ 4 → Lacks rows row → AreDistinct (rows ++ row ∷ [])
-AreDistinct-more rows row are wide lacks = record {
-  four = λ i h. grind (arith, cases_lt i (length rows), kept_row, last_row, length_push, are.four i);
-  distinct = λ i j h g same. grind (arith, cases_lt i (length rows), cases_lt j (length rows), kept_row, last_row, length_push, are.distinct i j, lacks i, lacks j);
-}

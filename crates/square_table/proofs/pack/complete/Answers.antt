@@ -1,8 +1,4 @@
-use Rattle.std.proofs.Common.{ap, [], ◌∷◌, arith}
-use Rattle.std.proofs.lemmas.List.{length_push}
-use Rattle.std.proofs.lemmas.Slice.Eq.{bytes_eq-Decides}
-use Rattle.plane_core.specs.Rows.{Numbered}
-use Rattle.plane_core.proofs.Shared.Numbering.{number_row-empty}
+use Rattle.square_table.proofs.Names.{Numbered, [], ap, arith, bytes_eq-Decides, length_push, number_row-empty, ◌∷◌}
 use Rattle.square_table.proofs.Packing.{number_row-new}
 use Rattle.square_table.proofs.pack.complete.Goals as goal
 

@@ -1,7 +1,5 @@
-use Rattle.std.proofs.Common.{◌≡◌, ◌∙◌, ℕ, ◌<◌, length, map, slice_set, replicate, ap, arith, sym, subst, get_or}
-use Rattle.std.proofs.lemmas.List.{length-set, length-map, length-replicate, get_or-replicate, map-set, get_or_default}
+use Rattle.square_table.proofs.Names.{ap, arith, get_or, length, length-map, length-set, map, map-set, note_in, slice_set, ◌<◌, ◌∙◌}
 use Rattle.std.proofs.lemmas.List.Edits.{fill_by_more}
-use Rattle.square_table.specs.Rows.{note_in}
 use Rattle.square_table.proofs.Noted.{kids_of-set, all_none}
 use Rattle.square_table.proofs.row.forget.Goals as goal
 

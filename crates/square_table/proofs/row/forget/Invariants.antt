@@ -1,5 +1,4 @@
-use Rattle.std.proofs.Common.{◌≡◌, ℕ, ◌<◌, length, map, get_or}
-use Rattle.square_table.specs.Rows.{note_in, kids_of}
+use Rattle.square_table.proofs.Names.{get_or, kids_of, length, map, note_in, ℕ, ◌<◌, ◌≡◌}
 use Rattle.square_table.proofs.row.forget.Given as goal
 
 abbrev pub invariant-loop-row : goal.invariant-loop-row

@@ -1,6 +1,4 @@
-use Rattle.std.proofs.Common.{◌∙◌, ap, slice_set, map, arith}
-use Rattle.std.proofs.lemmas.List.{map-set}
-use Rattle.square_table.specs.Rows.{note_in}
+use Rattle.square_table.proofs.Names.{ap, arith, map, map-set, note_in, slice_set, ◌∙◌}
 use Rattle.square_table.proofs.Noted.{kids_of-set}
 use Rattle.square_table.proofs.row.note.Goals as goal
 

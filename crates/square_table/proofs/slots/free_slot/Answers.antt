@@ -1,7 +1,4 @@
-use Rattle.std.proofs.Common.{◌∙◌, length, sym, ap, arith}
-use Rattle.std.proofs.lemmas.List.{get_or_default}
-use Rattle.square_table.specs.Slots.{next_of}
-use Rattle.square_table.specs.declared.slots.Slot.{Slot}
+use Rattle.square_table.proofs.Names.{Slot, ap, arith, get_or_default, length, next_of, sym, ◌∙◌}
 use Rattle.square_table.proofs.Probing.{way_first, way_next, used_next}
 use Rattle.square_table.proofs.slots.free_slot.Goals as goal
 

@@ -1,5 +1,4 @@
-use Rattle.std.proofs.Common.{◌≡◌, ◌<◌, length}
-use Rattle.square_table.specs.Slots.{way, IsUsed}
+use Rattle.square_table.proofs.Names.{IsUsed, length, way, ◌<◌, ◌≡◌}
 use Rattle.square_table.proofs.slots.free_slot.Given as goal
 
 abbrev pub invariant-loop : goal.invariant-loop

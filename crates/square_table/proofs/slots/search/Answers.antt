@@ -1,10 +1,5 @@
-use Rattle.std.proofs.Common.{◌-◌, [], ◌∙◌, length, slice_index_or, sym, ap, arith, inl}
-use Rattle.std.proofs.lemmas.List.{get_or_default, get_or-map}
-use Rattle.square_table.specs.declared.row.Row.{Row}
-use Rattle.square_table.specs.Rows.{kids_in, kids_of}
-use Rattle.square_table.specs.Slots.{next_of, row_in}
+use Rattle.square_table.proofs.Names.{Row, Slot, [], ap, arith, get_or-map, get_or_default, inl, kids_in, kids_of, length, next_of, row_in, slice_index_or, sym, ◌-◌, ◌∙◌}
 use Rattle.square_table.proofs.Probing.{way_first, way_next, finds_kids, passed_none, passes, lacks_passed}
-use Rattle.square_table.specs.declared.slots.Slot.{Slot}
 use Rattle.square_table.proofs.slots.search.Goals.{else-has_tag-via-then-has_tag+else-is_same, else-has_tag-via-else-has_tag}
 use Rattle.square_table.proofs.slots.search.Goals as goal
 

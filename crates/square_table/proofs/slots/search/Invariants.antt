@@ -1,6 +1,4 @@
-use Rattle.std.proofs.Common.{◌≡◌, ◌<◌, length}
-use Rattle.square_table.specs.Rows.{kids_of}
-use Rattle.square_table.specs.Slots.{way}
+use Rattle.square_table.proofs.Names.{kids_of, length, way, ◌<◌, ◌≡◌}
 use Rattle.square_table.proofs.Probing.{HasPassed}
 use Rattle.square_table.proofs.slots.search.Given as goal
 

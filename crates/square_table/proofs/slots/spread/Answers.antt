@@ -1,7 +1,4 @@
-use Rattle.std.proofs.Common.{◌∙◌, ap, sym}
-use Rattle.std.proofs.lemmas.List.{get_or-map, length-set}
-use Rattle.square_table.specs.Rows.{kids_in, kids_of}
-use Rattle.square_table.specs.Slots.{mark_of}
+use Rattle.square_table.proofs.Names.{ap, get_or-map, kids_in, kids_of, length-set, mark_of, sym, ◌∙◌}
 use Rattle.square_table.proofs.Probing.{finds_next}
 use Rattle.square_table.proofs.slots.spread.Goals as goal
 

@@ -1,6 +1,4 @@
-use Rattle.std.proofs.Common.{◌≡◌, length}
-use Rattle.square_table.specs.Rows.{kids_of}
-use Rattle.square_table.specs.Slots.{FindsRows}
+use Rattle.square_table.proofs.Names.{FindsRows, kids_of, length, ◌≡◌}
 use Rattle.square_table.proofs.slots.spread.Given as goal
 
 abbrev pub invariant-loop-place : goal.invariant-loop-place

@@ -1,7 +1,4 @@
-use Rattle.std.proofs.Common.{List, length, subst, ap, ◌∙◌}
-use Rattle.square_table.specs.Rows.{kids_of}
-use Rattle.square_table.specs.Slots.{FindsRows}
-use Rattle.square_table.specs.declared.slots.Slot.{Slot}
+use Rattle.square_table.proofs.Names.{FindsRows, List, Slot, ap, kids_of, length, subst, ◌∙◌}
 use Rattle.square_table.proofs.Noted.{whole}
 use Rattle.square_table.proofs.slots.widen.Goals as goal
 

@@ -1,6 +1,4 @@
-use Rattle.std.proofs.Common.{arith}
-use Rattle.std.proofs.lemmas.Bool.{eqb-true}
-use Rattle.std.proofs.lemmas.Slice.Eq.{bytes_eq-Decides}
+use Rattle.square_table.proofs.Names.{arith, bytes_eq-Decides, eqb-true}
 use Rattle.square_table.proofs.Packing.{blank_row, blank_state, quadrant_numbers}
 use Rattle.square_table.proofs.table.SquareTable.+is_blank.Goals as goal
 

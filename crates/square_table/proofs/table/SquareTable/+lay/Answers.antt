@@ -1,6 +1,4 @@
-use Rattle.std.proofs.Common.{rules, ◌≡◌, ◌-◌, ◌<◌, subst, arith}
-use Rattle.square_tree.specs.Quadtree.{quadtree, quadtree_of_four, cell, HasLevel}
-use Rattle.square_table.specs.Squares.{first_number}
+use Rattle.square_table.proofs.Names.{HasLevel, arith, cell, first_number, quadtree, quadtree_of_four, rules, subst, ◌-◌, ◌<◌, ◌≡◌}
 use Rattle.square_table.proofs.Shared.Growth.{Grows-then, IsNumber-grows}
 use Rattle.square_table.proofs.Laying.{in_turn, joined-laid, laid-state, quadrants_of}
 use Rattle.square_table.proofs.table.SquareTable.+lay.Goals as goal

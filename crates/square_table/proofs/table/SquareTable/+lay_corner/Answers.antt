@@ -1,6 +1,4 @@
-use Rattle.std.proofs.Common.{rules, ◌≡◌, ◌-◌, ◌<◌, suc, length, ap, arith}
-use Rattle.square_tree.specs.Quadtree.{quadtree}
-use Rattle.square_table.specs.Laying.{in_quadrant, in_corner}
+use Rattle.square_table.proofs.Names.{ap, arith, in_corner, in_quadrant, length, quadtree, rules, suc, ◌-◌, ◌<◌, ◌≡◌}
 use Rattle.square_table.proofs.Packing.{number_at}
 use Rattle.square_table.proofs.Laying.{joined-laid, laid-quadrant, quadrants_of}
 use Rattle.square_table.proofs.table.SquareTable.+lay_corner.Goals as goal

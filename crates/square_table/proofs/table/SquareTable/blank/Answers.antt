@@ -1,7 +1,4 @@
-use Rattle.std.proofs.Common.{rules, ◌≡◌, ℕ, suc, ◌+◌, ◌≤◌, [], sym, add-one, subst, arith}
-use Rattle.worlds.specs.Square.{empty_square}
-use Rattle.square_table.specs.Squares.{Table, IsNumber, square_in, Grows, GrowsBy}
-use Rattle.square_table.specs.Loading.{GrowsFrom}
+use Rattle.square_table.proofs.Names.{Grows, GrowsBy, GrowsFrom, IsNumber, Table, [], add-one, arith, empty_square, rules, square_in, subst, suc, sym, ℕ, ◌+◌, ◌≡◌, ◌≤◌}
 use Rattle.square_table.proofs.Loading.{GrowsFrom-same, GrowsFrom-then, GrowsFrom-higher, IsNumber-state, square_in-cell, empty_square-zero, four_of, blank_joined, blank_grows}
 use Rattle.square_table.proofs.table.SquareTable.blank.Goals as goal
 

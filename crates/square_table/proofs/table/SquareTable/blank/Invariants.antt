@@ -1,7 +1,4 @@
-use Rattle.std.proofs.Common.{◌≡◌, ◌+◌, []}
-use Rattle.worlds.specs.Square.{empty_square}
-use Rattle.square_table.specs.Squares.{IsNumber, square_in}
-use Rattle.square_table.specs.Loading.{GrowsFrom}
+use Rattle.square_table.proofs.Names.{GrowsFrom, IsNumber, [], empty_square, square_in, ◌+◌, ◌≡◌}
 use Rattle.square_table.proofs.table.SquareTable.blank.Given as goal
 
 abbrev pub invariant-loop : goal.invariant-loop

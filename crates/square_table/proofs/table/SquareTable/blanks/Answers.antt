@@ -1,6 +1,4 @@
-use Rattle.std.proofs.Common.{rules, ◌≡◌, ◌+◌, ◌∷◌, ◌++◌, ℕ, List, [], length, refl, ap, sym, ◌∙◌, subst, arith}
-use Rattle.square_table.specs.Squares.{Table}
-use Rattle.square_table.specs.Loading.{GrowsFrom}
+use Rattle.square_table.proofs.Names.{GrowsFrom, List, Table, [], ap, arith, length, refl, rules, subst, sym, ℕ, ◌++◌, ◌+◌, ◌∙◌, ◌∷◌, ◌≡◌}
 use Rattle.square_table.proofs.Loading.{GrowsFrom-same, GrowsFrom-then, GrowsFrom-higher, AreBlanks-first}
 use Rattle.square_table.proofs.table.SquareTable.blanks.Goals as goal
 

@@ -1,5 +1,4 @@
-use Rattle.std.proofs.Common.{◌≡◌, [], length}
-use Rattle.square_table.specs.Loading.{AreBlanks, GrowsFrom}
+use Rattle.square_table.proofs.Names.{AreBlanks, GrowsFrom, [], length, ◌≡◌}
 use Rattle.square_table.proofs.table.SquareTable.blanks.Given as goal
 
 abbrev pub invariant-loop : goal.invariant-loop

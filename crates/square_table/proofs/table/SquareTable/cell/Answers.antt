@@ -1,5 +1,4 @@
-use Rattle.std.proofs.Common.{arith, ap, refl}
-use Rattle.worlds.specs.Square.{one}
+use Rattle.square_table.proofs.Names.{ap, arith, one, refl}
 use Rattle.square_table.specs.Squares.{IsNumber, square_in}
 use Rattle.square_table.proofs.table.SquareTable.cell.Goals as goal
 

@@ -1,7 +1,4 @@
-use Rattle.std.proofs.Common.{◌≡◌, List, ◌∙◌, ap, map, subst, arith}
-use Rattle.square_table.specs.declared.row.Row.{Row}
-use Rattle.square_table.specs.Squares.{without_notes}
-use Rattle.square_table.specs.Rows.{kids_in, kids_of}
+use Rattle.square_table.proofs.Names.{List, Row, ap, arith, kids_in, kids_of, subst, without_notes, ◌∙◌, ◌≡◌}
 use Rattle.square_table.proofs.Noted.{seen, seen-none, whole, same_length}
 use Rattle.square_table.proofs.table.SquareTable.forget_notes.Goals as goal
 

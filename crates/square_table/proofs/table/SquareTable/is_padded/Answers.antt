@@ -1,6 +1,4 @@
-use Rattle.std.proofs.Common.{◌≡◌, ◌-◌, ◌<◌, ◌≤◌, ℕ, get_or, subst, arith}
-use Rattle.std.proofs.lemmas.Slice.Eq.{bytes_eq-Decides}
-use Rattle.square_table.specs.Squares.{IsNumber}
+use Rattle.square_table.proofs.Names.{IsNumber, arith, bytes_eq-Decides, get_or, subst, ℕ, ◌-◌, ◌<◌, ◌≡◌, ◌≤◌}
 use Rattle.square_table.proofs.Packing.{padded_by, quadrant_numbers}
 use Rattle.square_table.proofs.table.SquareTable.is_padded.Goals as goal
 

@@ -1,7 +1,5 @@
-use Rattle.std.proofs.Common.{◌≡◌, ◌+◌, [], length, slice_index_or, ◌∙◌, ap, sym, add-one, subst, arith, rules}
-use Rattle.std.proofs.lemmas.List.{get_or_default}
+use Rattle.square_table.proofs.Names.{IsSquareOf, [], add-one, ap, arith, get_or_default, length, level_of, rules, slice_index_or, subst, sym, ◌+◌, ◌∙◌, ◌≡◌}
 use Rattle.square_table.specs.declared.square.Square.{Square}
-use Rattle.square_table.specs.Squares.{IsSquareOf, level_of}
 use Rattle.square_table.proofs.Shared.Growth.{Keeps-grows}
 use Rattle.square_table.proofs.Shared.Making.{IsFor-joined, four_numbers, four_cells}
 use Rattle.square_table.proofs.table.SquareTable.join.Goals as goal

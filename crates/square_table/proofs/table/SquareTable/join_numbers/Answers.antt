@@ -1,5 +1,4 @@
-use Rattle.std.proofs.Common.{◌≡◌, sym, subst, arith, inl, inr}
-use Rattle.square_table.specs.Squares.{Grows}
+use Rattle.square_table.proofs.Names.{Grows, arith, inl, inr, subst, sym}
 use Rattle.square_table.proofs.Noted.{seen-push}
 use Rattle.square_table.proofs.Shared.Growth.{Grows-more, Grows-same}
 use Rattle.square_table.proofs.table.SquareTable.join_numbers.Goals as goal

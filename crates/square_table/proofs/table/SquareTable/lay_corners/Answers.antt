@@ -1,6 +1,4 @@
-use Rattle.std.proofs.Common.{◌≡◌, ◌-◌, ◌<◌, [], ◌∷◌, subst, arith}
-use Rattle.square_tree.specs.Quadtree.{quadtree, quadtree_of_four}
-use Rattle.square_table.specs.Laying.{AreLaidAs, in_corner, in_middle}
+use Rattle.square_table.proofs.Names.{AreLaidAs, [], arith, in_corner, in_middle, quadtree, quadtree_of_four, subst, ◌-◌, ◌<◌, ◌∷◌, ◌≡◌}
 use Rattle.square_table.proofs.Shared.Growth.{Grows-then, IsNumber-grows}
 use Rattle.square_table.proofs.Laying.{in_turn}
 use Rattle.square_table.proofs.table.SquareTable.lay_corners.Goals as goal

@@ -1,7 +1,4 @@
-use Rattle.std.proofs.Common.{rules, ◌≡◌, ◌-◌, ◌<◌, suc, length, sym, subst, arith, lit<}
-use Rattle.square_tree.specs.Quadtree.{quadtree, cell, HasLevel}
-use Rattle.square_table.specs.Squares.{first_number}
-use Rattle.square_table.specs.Laying.{in_quadrant, in_corner, in_middle, IsLaidAs}
+use Rattle.square_table.proofs.Names.{HasLevel, IsLaidAs, arith, cell, first_number, in_corner, in_middle, in_quadrant, length, lit<, quadtree, rules, subst, suc, sym, ◌-◌, ◌<◌, ◌≡◌}
 use Rattle.square_table.proofs.Laying.{joined-laid, laid-cell, laid-quadrant, quadrants_of}
 use Rattle.square_table.proofs.Middles.{middle_cell, middle_zero}
 use Rattle.square_table.proofs.table.SquareTable.lay_middle.Goals as goal

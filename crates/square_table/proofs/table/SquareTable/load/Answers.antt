@@ -1,19 +1,10 @@
-use Rattle.std.proofs.Common.{◌≡◌, ℕ, ◌≤◌, List, [], ◌∷◌, ap, refl, sym, ◌∙◌, subst, arith}
-use Rattle.std.specs.Prelude.{Contains}
-use Rattle.worlds.specs.World.{World}
+use Rattle.square_table.proofs.Names.{AreSquaresOf, Contains, Fits, GrowsFor, GrowsFrom, HasEmpty, IfOk_then, IsCentred, IsRootLevel, List, SquareRow, Table, Tells, World, [], ap, arith, cells_of, edge, empty_below, level_of, refl}
+use Rattle.square_table.proofs.Names.{root_level, root_level-none, root_of, rooted, square_at, square_in-none, subst, sym, ℕ, ◌∙◌, ◌∷◌, ◌≡◌, ◌≤◌}
 use Rattle.worlds.specs.Square as squares
-use Rattle.worlds.specs.Square.{empty_square, square_at}
-use Rattle.plane_core.specs.declared.row.SquareRow.{SquareRow}
+use Rattle.worlds.specs.Square.{empty_square}
 use Rattle.plane_core.specs.Rows as listed
-use Rattle.plane_core.specs.Rows.{AreRows, AreSquaresOf, root_level, root_of, Fits, IsLeastLevel}
-use Rattle.plane_core.proofs.Shared.Adding.{IfOk_then}
-use Rattle.plane_core.proofs.Shared.Roots.{rooted, root_level-none}
-use Rattle.plane_core.proofs.Shared.Sound.{square_in-none}
 use Rattle.square_table.specs.declared.square.Square.{Square}
-use Rattle.square_table.specs.Squares.{Table, Tells, level_of, cells_of}
-use Rattle.square_table.specs.Centred.{edge, IsCentred}
-use Rattle.square_table.specs.Made.{HoldsWithin, HasEmpty}
-use Rattle.square_table.specs.Loading.{GrowsFrom, GrowsFor, IsRootLevel, empty_below}
+use Rattle.square_table.specs.Made.{HoldsWithin}
 use Rattle.square_table.proofs.Shared.Growth.{Grows-same}
 use Rattle.square_table.proofs.Listing.{each_square}
 use Rattle.square_table.proofs.Canonical.{cells_below, levels_up_to}

@@ -1,6 +1,4 @@
-use Rattle.std.proofs.Common.{ℕ, [], ◌∷◌, ap₂, sym, ◌∙◌, refl, lit<}
-use Rattle.square_table.specs.Squares.{Table, square_in, Grows, GrowsBy, IsSquareOf}
-use Rattle.square_table.specs.Loading.{AreBlanks, GrowsFrom}
+use Rattle.square_table.proofs.Names.{AreBlanks, Grows, GrowsBy, GrowsFrom, IsSquareOf, Table, [], ap₂, lit<, refl, square_in, sym, ℕ, ◌∙◌, ◌∷◌}
 use Rattle.square_table.proofs.Loading.{AreBlanks-first, AreBlanks-more, blank_grows, four_of, IsNumber-state, square_in-cell, empty_square-zero}
 use Rattle.square_table.proofs.table.SquareTable.load_none.Goals as goal
 

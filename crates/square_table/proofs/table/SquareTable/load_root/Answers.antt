@@ -1,17 +1,7 @@
-use Rattle.std.proofs.Common.{◌≡◌, ℕ, ◌-◌, ◌<◌, List, [], None, Some, length, get_or, refl, ap, sym, ◌∙◌, subst, arith, inl, inr}
-use Rattle.std.specs.Prelude.{slice_get}
-use Rattle.std.proofs.lemmas.Bool.{cases_lt}
-use Rattle.std.proofs.lemmas.List.{nil_from_length, get_or_read}
+use Rattle.square_table.proofs.Names.{AreLoaded, AreRows, GrowsFrom, IfOk_then, LevelsUpTo, List, None, Some, SquareRow, Table, [], ap, arith, cases_lt, empty_below, empty_square, get_or, get_or_read, inl, inr, length, nil_from_length}
+use Rattle.square_table.proofs.Names.{no_row, refl, root_level, root_level-none, root_level-some, root_of, slice_get, square_in, square_in-none, subst, sym, ℕ, ◌-◌, ◌<◌, ◌∙◌, ◌≡◌}
 use Rattle.std.proofs.lemmas.Option.{slice_get_within, get_or_from_slice_get, slice_get-get_or}
-use Rattle.worlds.specs.Square.{empty_square}
-use Rattle.plane_core.specs.declared.row.SquareRow.{SquareRow}
 use Rattle.plane_core.specs.Rows as listed
-use Rattle.plane_core.specs.Rows.{no_row, AreRows, root_level, root_of}
-use Rattle.plane_core.proofs.Shared.Adding.{IfOk_then}
-use Rattle.plane_core.proofs.Shared.Roots.{root_level-none, root_level-some}
-use Rattle.plane_core.proofs.Shared.Sound.{square_in-none}
-use Rattle.square_table.specs.Squares.{Table, square_in}
-use Rattle.square_table.specs.Loading.{LevelsUpTo, AreLoaded, GrowsFrom, empty_below}
 use Rattle.square_table.proofs.Loading.{GrowsFrom-same, GrowsFrom-higher, GrowsFrom-behind}
 use Rattle.square_table.proofs.table.SquareTable.load_root.Goals as goal
 

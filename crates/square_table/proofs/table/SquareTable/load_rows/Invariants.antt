@@ -1,5 +1,4 @@
-use Rattle.std.proofs.Common.{◌-◌, length}
-use Rattle.square_table.specs.Loading.{AreBlanks, AreLoaded, GrowsFrom}
+use Rattle.square_table.proofs.Names.{AreBlanks, AreLoaded, GrowsFrom, length, ◌-◌}
 use Rattle.square_table.proofs.table.SquareTable.load_rows.Given as goal
 
 abbrev pub invariant-loop-self : goal.invariant-loop-self

@@ -1,7 +1,4 @@
-use Rattle.std.proofs.Common.{◌≡◌, List, ◌-◌, ◌∙◌, get_or, sym, ap, map, subst, arith}
-use Rattle.square_table.specs.declared.row.Row.{Row}
-use Rattle.square_table.specs.Squares.{Table, first_number, with_note}
-use Rattle.square_table.specs.Rows.{kids_in, kids_of}
+use Rattle.square_table.proofs.Names.{List, Row, Table, ap, arith, first_number, get_or, kids_in, kids_of, subst, sym, with_note, ◌-◌, ◌∙◌, ◌≡◌}
 use Rattle.square_table.proofs.Noted.{seen, seen-note, noted-there, whole, same_length}
 use Rattle.square_table.proofs.table.SquareTable.note.Goals as goal
 

@@ -1,11 +1,4 @@
-use Rattle.std.proofs.Common.{◌≡◌, ◌-◌, sym, ◌∙◌, subst}
-use Rattle.worlds.specs.World.{World}
-use Rattle.worlds.specs.Square.{Square, IsSquare}
-use Rattle.plane_core.specs.Rows.{world_of_rows}
-use Rattle.plane_core.proofs.Shared.Adding.{IfOk_then}
-use Rattle.plane_core.proofs.Shared.Tidy.{IsListed}
-use Rattle.square_table.specs.Squares.{Table, level_of, cells_of, square_of}
-use Rattle.square_table.specs.Centred.{IsCentred}
+use Rattle.square_table.proofs.Names.{IfOk_then, IsCentred, IsListed, IsSquare, Square, Table, World, cells_of, level_of, square_of, subst, sym, world_of_rows, ◌-◌, ◌∙◌, ◌≡◌}
 use Rattle.square_table.proofs.Packing.{root_IsSquare, root_listed}
 use Rattle.square_table.proofs.Shared.Centring.{put_world}
 use Rattle.square_table.proofs.table.SquareTable.pack.Goals as goal
@@ -13,15 +6,15 @@ use Rattle.square_table.proofs.table.SquareTable.pack.Goals as goal
 pub from_walked-requires : goal.from_walked-requires
 from_walked-requires c =
     let root = c.root.result in
-    let is = root_IsSquare c.take_places-places.new.self.rows root.level root.kids c.root.ensures.level.0 c.root.ensures.numbers in
+    let is = root_IsSquare c.take_numbers-numbers.new.self.rows root.level root.kids c.root.ensures.level.0 c.root.ensures.numbers in
     (root_listed root.level _ c.in_ok-packed.packed.squares.items c.root.ensures.level.0 c.root.ensures.level.1 is c.in_ok-packed.ensures).walked
 
 pub returns-clause-plane : goal.returns-clause-plane
 returns-clause-plane c =
     let k = level_of c.args.square in
     let w = c.requires.world.0 in
-    let t : Table = c.take_places-places.new.self in
-    let is : IsCentred w k (cells_of t c.args.square) = subst (λ (t : Table). IsCentred w k (cells_of t c.args.square)) (sym c.take_places-places.ensures) c.requires.world.2 in
+    let t : Table = c.take_numbers-numbers.new.self in
+    let is : IsCentred w k (cells_of t c.args.square) = subst (λ (t : Table). IsCentred w k (cells_of t c.args.square)) (sym c.take_numbers-numbers.ensures) c.requires.world.2 in
     let root = c.root.result in
     let part : Square = square_of t.rows (root.level - 1) root.kids in
     let shape : IsSquare root.level part = root_IsSquare t.rows root.level root.kids c.root.ensures.level.0 c.root.ensures.numbers in

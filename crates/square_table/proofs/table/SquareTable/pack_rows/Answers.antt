@@ -11,5 +11,5 @@ complete-requires-clause-few c = c.in_ok-kids.ensures.packs.packing.few
 pub returns : goal.returns
 returns c =
     let root = c.args.root in
-    rows_packed c.args.self.now.rows root.level (root.level - 1) root.kids c.in_ok-kids.kids c.nothing-packed.result.squares.items c.pack_kids.new.packed.squares.items c.complete.new.squares.items
-    (level_suc root.level c.requires.level.0) c.nothing-packed.ensures.none c.in_ok-kids.ensures.walks c.in_ok-complete.ensures.rows
+    rows_packed c.args.self.now.rows root.level (root.level - 1) root.kids c.in_ok-kids.kids c.in_ok-packed.packed.squares.items c.pack_kids.new.packed.squares.items c.complete.new.squares.items
+    (level_suc root.level c.requires.level.0) c.in_ok-packed.ensures.none c.in_ok-kids.ensures.walks c.in_ok-complete.ensures.rows

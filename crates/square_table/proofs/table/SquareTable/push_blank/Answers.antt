@@ -1,5 +1,4 @@
-use Rattle.std.proofs.Common.{◌≡◌, ◌-◌, ◌<◌, ℕ, List, length, get_or, ap, ◌∙◌, arith}
-use Rattle.std.proofs.lemmas.List.{get_or_read}
+use Rattle.square_table.proofs.Names.{List, ap, arith, get_or, get_or_read, length, ℕ, ◌-◌, ◌<◌, ◌∙◌, ◌≡◌}
 use Rattle.square_table.proofs.Loading.{blanks_grow, AreBlanks-more}
 use Rattle.square_table.proofs.table.SquareTable.push_blank.Goals as goal
 

@@ -1,7 +1,4 @@
-use Rattle.std.proofs.Common.{◌≡◌, ◌-◌, ◌<◌, ◌≤◌, ℕ, List, [], ◌∷◌, length, get_or, sym, subst, arith}
-use Rattle.plane_core.specs.declared.row.SquareRow.{SquareRow}
-use Rattle.plane_core.specs.Rows.{no_row}
-use Rattle.square_table.specs.Loading.{AreLoaded, IsLoading, number_in}
+use Rattle.square_table.proofs.Names.{AreLoaded, IsLoading, List, SquareRow, [], arith, get_or, length, no_row, number_in, subst, sym, ℕ, ◌-◌, ◌<◌, ◌∷◌, ◌≡◌, ◌≤◌}
 use Rattle.square_table.proofs.Loading.{IsNext, next_found, next_kid, next_kids, next_grows, next_loaded}
 use Rattle.square_table.proofs.table.SquareTable.push_next.Goals as goal
 

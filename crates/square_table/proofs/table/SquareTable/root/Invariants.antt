@@ -1,6 +1,4 @@
-use Rattle.std.proofs.Common.{◌-◌, ◌≤◌}
-use Rattle.square_table.specs.Squares.{AreNumbers, square_of, level_of, cells_of}
-use Rattle.square_table.specs.Centred.{CentredAlike}
+use Rattle.square_table.proofs.Names.{AreNumbers, CentredAlike, cells_of, level_of, square_of, ◌-◌, ◌≤◌}
 use Rattle.square_table.proofs.table.SquareTable.root.Given as goal
 
 abbrev pub invariant-loop-root : goal.invariant-loop-root
