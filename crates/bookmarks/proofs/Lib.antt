@@ -1,3 +1,4 @@
 pub mod Lines
 pub mod Rows
 pub mod Places
+pub mod Names

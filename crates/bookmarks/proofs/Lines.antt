@@ -1,8 +1,6 @@
 -- Steps of the text of counts.
-use Rattle.std.proofs.Common.{◌≡◌, ℕ, suc, ◌+◌, ◌-◌, ◌<◌, List, ◌++◌, ap, ap₂, ◌∙◌, sym, arith, append_assoc, append-nil}
-use Rattle.worlds.specs.World.{World}
+use Rattle.bookmarks.proofs.Names.{List, World, ap, append-nil, append_assoc, ap₂, arith, count_line, count_lines, count_lines-more, count_lines-none, suc, sym, ℕ, ◌++◌, ◌+◌, ◌-◌, ◌<◌, ◌∙◌, ◌≡◌}
 use Rattle.worlds.specs.Live.{count_of}
-use Rattle.bookmarks.specs.Counts.{count_line, count_lines, count_lines-none, count_lines-more}
 
 -- one more state
 pub lines-more : (w : World) (text after : List ℕ) (below state count : ℕ) → below < 255 → state ≡ below + 1 → count ≡ count_of w state → after ≡ text ++ count_line state count

@@ -1,20 +1,12 @@
 -- Places in a window, and the cells whose states are set in its list.
-use Rattle.std.proofs.Common.{◌≡◌, ◌≢◌, ◌∙◌, sym, ap, ap₂, refl, subst, ℕ, ◌+◌, ◌<◌, ◌≤◌, ◌^◌, true, false, cond, List, [], ◌∷◌, ◌++◌, length, take, get_or, set, get_or-set_same, get_or-set_other, ℤ, pos, ◌+ℤ◌, ◌-ℤ◌, ◌≤ℤ◌, inl, inr, SFits, w64, to_z, of_z, arith}
-use Rattle.std.specs.Prelude.{All, unsigned_abs, IsTrue, ◌&&◌, ◌*◌, nat_lt, nat_le, int_le, neg_ℤ}
+use Rattle.bookmarks.proofs.Names.{All, All-head, All-tail, AreLiveWithin, Cell, IsIn, IsLiveWithin, IsTrue, List, Place, SFits, World, [], ap, ap₂, arith, cell, cond, count_at, false, fits_signed_from_abs, get_or, get_or-set_other}
+use Rattle.bookmarks.proofs.Names.{get_or-set_same, inl, inr, int_le, ints, last_state, length, mul-le-mul_left, nat_le, nat_lt, neg_ℤ, of_z, pos, refl, same_place, set, spans_plane, state_at, subst, sym, take, take_more, to_z, to_z-of_z}
+use Rattle.bookmarks.proofs.Names.{true, unsigned_abs, w64, ℕ, ℤ, ◌&&◌, ◌*◌, ◌++◌, ◌+ℤ◌, ◌+◌, ◌-ℤ◌, ◌<◌, ◌^◌, ◌∙◌, ◌∷◌, ◌≡◌, ◌≢◌, ◌≤ℤ◌, ◌≤◌}
 use Rattle.std.proofs.lemmas.Bool.{cases_lt, cond_both, and_parts, leb-true}
-use Rattle.std.proofs.lemmas.Int.{ints, fits_signed_from_abs, to_z-of_z}
-use Rattle.std.proofs.Math.Nat.{mul-le-mul_left}
-use Rattle.std.proofs.lemmas.List.{take_more}
-use Rattle.std.proofs.lemmas.List.Elements.{All-head, All-tail}
 use Rattle.std.proofs.lemmas.List.Sums.{sum_by-cons}
 use Rattle.worlds.specs.declared.cell.Bounds.{Bounds}
-use Rattle.worlds.specs.declared.cell.Cell.{Cell}
-use Rattle.worlds.specs.World.{World, Place, cell, same_place}
 use Rattle.worlds.specs.Fill.{same_is, is_same}
 use Rattle.worlds.specs.Range.{IsInBox}
-use Rattle.plane_core.specs.Within.{IsLiveWithin, AreLiveWithin, count_at}
-use Rattle.bookmarks.specs.Within.{spans_plane}
-use Rattle.bookmarks.specs.Window.{last_state, state_at, IsIn}
 
 abbrev pub no_cell : Cell
 no_cell = record { x = pos 0; y = pos 0; state = 0 }

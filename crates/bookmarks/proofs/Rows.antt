@@ -1,13 +1,8 @@
 -- Steps of the text of a window.
-use Rattle.std.proofs.Common.{◌≡◌, ◌∙◌, sym, ap, refl, ℕ, zero, suc, ◌+◌, ◌<◌, ◌≤◌, List, [], ◌∷◌, ◌++◌, ℤ, pos, ◌+ℤ◌, map, length, take, drop, get_or, length-take, length-drop, get_or-take, get_or-drop, ◌*◌, append_assoc, append-nil, arith}
-use Rattle.std.specs.Prelude.{decimal, codes}
-use Rattle.std.specs.List.{join_with_byte, range_with_len, concat}
-use Rattle.std.proofs.lemmas.List.{take_more}
+use Rattle.bookmarks.proofs.Names.{List, ShowsWindow, World, [], ap, append-nil, append_assoc, arith, cell, codes, concat, decimal, drop, get_or, get_or-drop, get_or-take, join_with_byte, length, length-drop, length-take, line_of, map}
+use Rattle.bookmarks.proofs.Names.{mul-le-mul_left, next_state, pos, range_with_len, refl, row_line, suc, sym, take, take_more, window_text, zero, ℕ, ℤ, ◌*◌, ◌++◌, ◌+ℤ◌, ◌+◌, ◌<◌, ◌∙◌, ◌∷◌, ◌≡◌, ◌≤◌}
 use Rattle.std.proofs.lemmas.List.Folds.{concat-append}
 use Rattle.std.proofs.lemmas.List.FromFn.{map-range_with_len_more, fill_by_all}
-use Rattle.std.proofs.Math.Nat.{mul-le-mul_left}
-use Rattle.worlds.specs.World.{World, cell}
-use Rattle.bookmarks.specs.Window.{row_line, line_of, window_text, next_state, ShowsWindow}
 
 -- a piece behind others
 behind : List (List ℕ) → List ℕ → List ℕ

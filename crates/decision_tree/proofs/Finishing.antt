@@ -1,14 +1,6 @@
 -- The tree of nodes that were read.
-use Rattle.std.proofs.Common.{◌≡◌, ◌≢◌, ℕ, ◌+◌, ◌*◌, ◌-◌, ◌==◌, true, List, length, slice_index, Ok, Err, ap, ◌∙◌, sym, arith, rules, tests}
-use Rattle.std.proofs.lemmas.Bool.{and_from}
-use Rattle.std.proofs.lemmas.Bool.Decides.{nat_tests}
-use Rattle.worlds.specs.Step.{nine_zeros}
-use Rattle.rule_file.specs.declared.fault.RuleFault.TheVariants.{NotQuiescent}
-use Rattle.decision_tree.specs.declared.descriptors.TreeHead.{TreeHead}
-use Rattle.decision_tree.specs.declared.tree.Neighbors.{Neighbors}
-use Rattle.decision_tree.specs.Kept.{AreKept, IsKeptTree, IsTreeHead, nodes_in, nodes_of, tree_of_kept}
-use Rattle.decision_tree.specs.Tree.{Tree, is_quiescent, leads, next, places_of, root_of}
-use Rattle.decision_tree.specs.TreeLines.{depth_of_root, if_quiescent, tree_from}
+use Rattle.decision_tree.proofs.Names.{AreKept, Err, IsKeptTree, IsTreeHead, List, Neighbors, NotQuiescent, Ok, Tree, TreeHead, and_from, ap, arith, depth_of_root, if_quiescent, is_quiescent, leads, length, nat_tests, next, nine_zeros}
+use Rattle.decision_tree.proofs.Names.{nodes_in, nodes_of, places_of, root_of, rules, slice_index, sym, tests, tree_from, tree_of_kept, true, ℕ, ◌*◌, ◌+◌, ◌-◌, ◌==◌, ◌∙◌, ◌≡◌, ◌≢◌}
 use Rattle.decision_tree.proofs.Following.{root-kept}
 use Rattle.decision_tree.proofs.Shared.KeptNodes.{entries-nodes_of}
 

@@ -1,13 +1,7 @@
 -- Following inputs through entries that are kept one after another.
-use Rattle.std.proofs.Common.{◌≡◌, ◌∙◌, ℕ, ◌+◌, ◌*◌, ◌<◌, true, All, Bor, List, ◌∷◌, length, drop, get_or, slice_index, sym, ap, arith}
-use Rattle.std.proofs.lemmas.Bool.{and_parts}
-use Rattle.std.proofs.lemmas.List.{drop_more, get_or-map, length-map}
+use Rattle.decision_tree.proofs.Names.{All, Bor, IsKeptTree, List, Neighbors, Stores, and_parts, ap, arith, drop, drop_more, follow, get_or, get_or-map, inputs_of, is_quiescent, leads, leads-on, leads-width, length, length-map, next}
+use Rattle.decision_tree.proofs.Names.{node_at, nodes_in, places_of, root_of, slice_index, states_at, sym, tree_of_kept, true, ℕ, ◌*◌, ◌+◌, ◌<◌, ◌∙◌, ◌∷◌, ◌≡◌}
 use Rattle.std.proofs.lemmas.Nat.{mul-add-lt}
-use Rattle.decision_tree.specs.declared.tree.Neighbors.{Neighbors}
-use Rattle.decision_tree.specs.EntryForms.{states_at}
-use Rattle.decision_tree.specs.Kept.{nodes_in, tree_of_kept, IsKeptTree, Stores}
-use Rattle.decision_tree.specs.Tree.{node_at, leads, follow, next, is_quiescent, root_of, places_of, inputs_of}
-use Rattle.decision_tree.specs.TreeLaws.{leads-on, leads-width}
 use Rattle.decision_tree.proofs.Shared.KeptNodes.{entry-in, length-nodes_in, none-past}
 
 -- what one input does, where the entry that it chooses stands at `place`

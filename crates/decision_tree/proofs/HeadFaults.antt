@@ -1,12 +1,5 @@
 -- The faults of a tree's head, of which none is 'out of memory'.
-use Rattle.std.proofs.Common.{ℕ, List, [], ◌∷◌, Option, Ok, arith}
-use Rattle.std.specs.Option.{option_map_or, ok_or}
-use Rattle.basics.specs.Results.{◌>>=◌}
-use Rattle.rule_file.specs.declared.fault.RuleFault.TheVariants.{BadTree}
-use Rattle.rule_file.proofs.Shared.Readings.{WantsNone}
-use Rattle.rule_file.specs.RuleFile.{NumberedLine}
-use Rattle.decision_tree.specs.declared.descriptors.Descriptor.{Descriptor}
-use Rattle.decision_tree.specs.TreeLines.{Described, describe, descriptor_of, head_from, head_of}
+use Rattle.decision_tree.proofs.Names.{BadTree, Described, Descriptor, List, NumberedLine, Ok, Option, WantsNone, [], arith, describe, descriptor_of, head_from, head_of, ok_or, option_map_or, ℕ, ◌>>=◌, ◌∷◌}
 
 pub head_from-none : (last : ℕ) (d : Described) (lines : List NumberedLine) → WantsNone (head_from last d lines)
 head_from-none last d [] = λ h. absurd cc

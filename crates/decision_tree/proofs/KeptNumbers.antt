@@ -1,7 +1,5 @@
 -- Numbers that the words of a line write, as they are kept.
-use Rattle.std.proofs.Common.{ℕ, List, ◌++◌, map, Option}
-use Rattle.std.specs.Option.{option_map}
-use Rattle.decision_tree.specs.Kept.{saturated}
+use Rattle.decision_tree.proofs.Names.{List, Option, map, option_map, saturated, ℕ, ◌++◌}
 
 -- numbers that are read, with others before them, as they are kept
 abbrev pub with_front : List ℕ → Option (List ℕ) → Option (List ℕ)

@@ -1,9 +1,5 @@
 -- The last line of a section.
-use Rattle.std.proofs.Common.{◌≡◌, ℕ, ◌-◌, List, [], ◌∷◌, length, Some, arith}
-use Rattle.std.proofs.lemmas.Grind.{common_steps}
-use Rattle.std.specs.List.{slice_get}
-use Rattle.rule_file.specs.RuleFile.{NumberedLine}
-use Rattle.decision_tree.specs.TreeLines.{last_number}
+use Rattle.decision_tree.proofs.Names.{List, NumberedLine, Some, [], arith, common_steps, last_number, length, slice_get, ℕ, ◌-◌, ◌∷◌, ◌≡◌}
 
 pub last_number-some : (opened : ℕ) (lines : List NumberedLine) (line : NumberedLine) → slice_get lines (length lines - 1) ≡ Some line → line.number ≡ last_number opened lines
 last_number-some opened [] line h = absurd cc

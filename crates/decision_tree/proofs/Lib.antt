@@ -7,3 +7,4 @@ mod LastLine
 mod NextNode
 mod Reordered
 mod SameTrees
+pub mod Names

@@ -1,13 +1,6 @@
 -- Numbers that are kept up to 2^32 - 1, and the node that a line says.
-use Rattle.std.proofs.Common.{◌≡◌, ℕ, Bool, true, false, cond, List, [], ◌∷◌, ◌++◌, map, nat_lt, Option, Some, None, option_and_then, Result, refl, sym, ◌∙◌, arith}
-use Rattle.std.proofs.lemmas.Bool.Decides.{nat_tests}
-use Rattle.std.specs.List.{list_all}
-use Rattle.std.specs.Option.{option_map, ok_or}
-use Rattle.rule_file.specs.declared.fault.RuleFault.{RuleFault}
-use Rattle.rule_file.specs.declared.fault.RuleFault.TheVariants.{BadTree}
-use Rattle.decision_tree.specs.declared.descriptors.TreeHead.{TreeHead}
-use Rattle.decision_tree.specs.Kept.{AreKept, IsTreeHead, nodes_of, saturated}
-use Rattle.decision_tree.specs.TreeLines.{Node, is_next, node_from}
+use Rattle.decision_tree.proofs.Names.{AreKept, BadTree, Bool, IsTreeHead, List, Node, None, Option, Result, RuleFault, Some, TreeHead, [], arith, cond, false, is_next, list_all, map, nat_lt, nat_tests, node_from, nodes_of, ok_or}
+use Rattle.decision_tree.proofs.Names.{option_and_then, option_map, refl, saturated, sym, true, ℕ, ◌++◌, ◌∙◌, ◌∷◌, ◌≡◌}
 use Rattle.decision_tree.proofs.Shared.Growing.{is_next-node, depth-low, entries-low}
 use Rattle.decision_tree.proofs.Shared.KeptNodes.{depths-nodes_of}
 

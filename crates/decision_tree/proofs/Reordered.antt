@@ -1,20 +1,9 @@
 -- Two descriptors, one after the other, may stand in the other order.
-use Rattle.std.proofs.Common.{◌≡◌, ℕ, true, List, [], ◌∷◌, ◌++◌, Option, Some, None, Result, is_some, refl, arith}
-use Rattle.std.specs.List.{list_all}
-use Rattle.std.specs.Option.{ok_or, option_map}
-use Rattle.std.proofs.lemmas.Bool.{and_parts}
-use Rattle.basics.specs.Results.{◌>>=◌}
-use Rattle.rule_file.specs.declared.fault.RuleFault.{RuleFault}
-use Rattle.rule_file.specs.declared.fault.RuleFault.TheVariants.{BadTree}
-use Rattle.rule_file.specs.States.{states_in}
-use Rattle.rule_file.specs.RuleFile.{NumberedLine}
-use Rattle.rule_file.proofs.Shared.Readings.{GivesToo, then_too}
-use Rattle.decision_tree.specs.declared.descriptors.Descriptor.{Descriptor}
+use Rattle.decision_tree.proofs.Names.{BadTree, Described, Descriptor, DescriptorsInAnyOrder, GivesToo, List, Neighbors, None, NumberedLine, Option, Result, RuleFault, Some, [], and_parts, arith, describe, descriptor_of, head_from}
+use Rattle.decision_tree.proofs.Names.{if_quiescent, is_descriptor, is_some, last_number, list_all, neighbors_in, node_count_in, nodes_from, ok_or, once, option_map, refl, states_in, then_too, tree_from, true, undescribed, ℕ, ◌++◌, ◌>>=◌}
+use Rattle.decision_tree.proofs.Names.{◌∷◌, ◌≡◌}
 use Rattle.decision_tree.specs.declared.descriptors.Descriptor.TheVariants as descriptor
-use Rattle.decision_tree.specs.declared.tree.Neighbors.{Neighbors}
 use Rattle.decision_tree.proofs.Shared.Renumbered.{after_head, described, head_by, nodes_from-too}
-use Rattle.decision_tree.specs.Laws.{DescriptorsInAnyOrder, is_descriptor}
-use Rattle.decision_tree.specs.TreeLines.{Described, describe, descriptor_of, head_from, if_quiescent, last_number, neighbors_in, node_count_in, nodes_from, once, tree_from, undescribed}
 
 -- what is read of a value, and what of it a descriptor puts where none is yet
 record Readings : Type 0 where

@@ -1,10 +1,6 @@
 -- Equal trees are kept in equal numbers.
-use Rattle.std.proofs.Common.{◌≡◌, ℕ, ◌+◌, ◌*◌, ◌/◌, ◌<◌, List, length, sym, ap, ◌∙◌, arith}
+use Rattle.decision_tree.proofs.Names.{List, Neighbors, Tree, ap, arith, concat, length, nodes_in, sym, tree_of_kept, ℕ, ◌*◌, ◌+◌, ◌/◌, ◌<◌, ◌∙◌, ◌≡◌}
 use Rattle.std.proofs.Math.Nat.{mul-div_cancel}
-use Rattle.std.specs.List.{concat}
-use Rattle.decision_tree.specs.declared.tree.Neighbors.{Neighbors}
-use Rattle.decision_tree.specs.Kept.{nodes_in, tree_of_kept}
-use Rattle.decision_tree.specs.Tree.{Tree}
 use Rattle.decision_tree.proofs.Shared.KeptNodes.{entries-nodes_in}
 
 pub entries_same : (n m : ℕ) (e f : Neighbors) (r s : ℕ) (xs ys : List ℕ) → length xs ≡ (r + 1) * n → length ys ≡ (s + 1) * m → tree_of_kept n e r xs ≡ tree_of_kept m f s ys → xs ≡ ys

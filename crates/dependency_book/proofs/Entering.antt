@@ -1,38 +1,19 @@
 -- What is to be computed for what is needed next can be worked.
-use Rattle.std.proofs.Common.{◌≡◌, ℕ, ◌+◌, ◌-◌, ◌≤◌, ◌^◌, List, [], ◌∷◌, sym, subst, arith, Some}
-use Rattle.std.specs.Prelude.{◌==◌, All}
-use Rattle.std.specs.List.{AllByRecursion}
+use Rattle.dependency_book.proofs.Names.{All, AllByRecursion, BookState, Bookmark, CanBeRendered, CanBeStepped, CanBeWorked, Entry, IsEntryOf, IsRightBook, IsSound, List, Mark, Need, Plan, Some, Step, StepsTo, View, ViewsOf, [], after}
+use Rattle.dependency_book.proofs.Names.{arith, arrival_known, bookmark_in, cells_at, either_way, fork_of, mark_at, mark_near, start_of, step_said, subst, sym, view_said, world_in, ℕ, ◌+◌, ◌-◌, ◌==◌, ◌^◌, ◌∷◌, ◌≡◌, ◌≤◌}
 use Rattle.worlds.specs.declared.cell.CellSet.{CellSet}
 use Rattle.worlds.specs.Range.{AllBelow, CanBeLaid, HasMargin}
 use Rattle.worlds.proofs.Shared.Stepped.{HasMargin-less}
 use Rattle.rule_tree.specs.declared.rule.Rule.{Rule}
 use Rattle.rule_tree.specs.Rule.{states_of}
 use Rattle.bookmarks.specs.Within.{KeepsViewLimits}
-use Rattle.schedule.specs.declared.document.Bookmark.{Bookmark}
-use Rattle.schedule.specs.Branches.{fork_of}
-use Rattle.schedule.specs.Plan.{Plan}
-use Rattle.schedule.specs.Scratch.{cells_at, after}
-use Rattle.schedule.specs.Sound.{IsSound}
 use Rattle.schedule.proofs.Shared.Fits.{CanBeLaid-at}
 use Rattle.schedule.proofs.Shared.History.{AllBelow-after, HasMargin-after}
-use Rattle.revision_jobs.specs.declared.entry.Entry.{Entry}
 use Rattle.revision_jobs.specs.declared.entry.Entry.TheVariants as entry
 use Rattle.revision_jobs.specs.declared.entry.Rendering.{Rendering}
 use Rattle.revision_jobs.specs.declared.entry.Step.{Step as Stepping}
-use Rattle.revision_jobs.specs.Value.{start_of, world_in, CanBeStepped, CanBeRendered, CanBeWorked}
-use Rattle.desk_events.specs.declared.mark.Mark.{Mark}
-use Rattle.desk_events.specs.declared.need.Need.{Need}
-use Rattle.desk_events.specs.declared.need.Need.TheVariants.{Step, View}
-use Rattle.dependency_book.specs.BookState.{BookState, arrival_known}
-use Rattle.desk_events.specs.Wanted.{bookmark_in}
-use Rattle.dependency_book.specs.Entered.{IsEntryOf, StepsTo, ViewsOf}
-use Rattle.desk_events.specs.Marks.{mark_at}
-use Rattle.dependency_book.specs.Right.{IsRightBook}
-use Rattle.desk_events.proofs.Shared.Marks.{mark_near}
 use Rattle.desk_events.proofs.Shared.Gives as gives
-use Rattle.desk_events.proofs.Shared.Tests.{either_way}
 use Rattle.desk_events.proofs.Shared.Walk.{before_late}
-use Rattle.dependency_book.specs.Said.{step_said, view_said}
 use Rattle.dependency_book.proofs.Shared.Cores.{known_arrives}
 
 view_after : (d : BookState) (id : ℕ) (r : Rendering) → IsRightBook d → (h : ViewsOf d id r)

@@ -1,22 +1,8 @@
 -- What an edit makes of bookmarks, and what stays for them.
-use Rattle.std.proofs.Common.{arith, ◌≡◌, ℕ, ◌++◌, ◌⊎◌, false, List, [], ◌∷◌, refl, Option, None, Some, inl, inr}
-use Rattle.std.proofs.lemmas.Bool.Decides.{nat_tests}
-use Rattle.std.specs.Prelude.{◌==◌, if◌then◌else◌}
+use Rattle.dependency_book.proofs.Names.{AddBookmark, Asked, Bookmark, Branch, Empty, List, Mark, MoveBookmark, None, Option, Plan, RemoveBookmark, RowState, Some, [], arith, bookmark_in, bookmark_stays, changed, eq_true, false, felt_from}
+use Rattle.dependency_book.proofs.Names.{if◌then◌else◌, inl, inr, nat_tests, next_bookmark, refl, takes, text_kept, ℕ, ◌++◌, ◌==◌, ◌∷◌, ◌≡◌, ◌⊎◌}
 use Rattle.bookmarks.specs.declared.view.View.{View}
-use Rattle.schedule.specs.declared.branch.Branch.{Branch}
-use Rattle.schedule.specs.declared.document.Bookmark.{Bookmark}
-use Rattle.schedule.specs.Plan.{Plan}
-use Rattle.schedule.specs.Asked.{Asked, AddBookmark, MoveBookmark, RemoveBookmark}
-use Rattle.schedule.specs.Change.{changed, next_bookmark}
-use Rattle.desk_events.specs.declared.mark.Mark.{Mark}
-use Rattle.dependency_book.specs.declared.row.RowState.{RowState}
-use Rattle.dependency_book.specs.declared.row.RowState.TheVariants.{Empty}
-use Rattle.desk_events.specs.Wanted.{bookmark_in}
-use Rattle.desk_events.specs.Felt.{felt_from}
-use Rattle.dependency_book.specs.Kept.{bookmark_stays, text_kept}
-use Rattle.desk_events.specs.Kept.{takes}
 use Rattle.dependency_book.proofs.Remaking.{if_stays}
-use Rattle.desk_events.proofs.Shared.Tests.{eq_true}
 use Rattle.desk_events.proofs.Shared.Bookmarks.{in_added, moved_in, in_moved, in_removed, in_is}
 
 -- what stands for a bookmark after an edit, by the bookmark of its id then and before

@@ -1,20 +1,7 @@
 -- The rows from which what is needed is computed.
-use Rattle.std.proofs.Common.{◌≡◌, ℕ, zero, suc, ◌<◌, ◌∙◌, not, List, length, get_or, sym, ap, subst, arith, None, Some}
-use Rattle.std.specs.Prelude.{◌==◌, is_some, IsSome}
-use Rattle.std.specs.Option.{option_map}
-use Rattle.std.proofs.lemmas.Bool.{and_parts}
-use Rattle.desk_events.specs.declared.mark.Mark.{Mark}
-use Rattle.dependency_book.specs.BookState.{BookState, arrival_known}
-use Rattle.desk_events.specs.Wanted.{bookmark_in}
-use Rattle.dependency_book.specs.Held.{IsHeldBook}
-use Rattle.desk_events.specs.Marks.{ComesBefore, bookmark_mark}
-use Rattle.dependency_book.specs.Needs.{IsLedTo, ViewIsNext}
-use Rattle.dependency_book.specs.Ready.{AreHeldBack, before_row, is_ready}
-use Rattle.dependency_book.specs.RowState.{is_known}
-use Rattle.dependency_book.specs.Rows.{ArrivalRow, TextRow}
+use Rattle.dependency_book.proofs.Names.{AreHeldBack, ArrivalRow, BookState, ComesBefore, IsHeldBook, IsLedTo, IsSome, List, Mark, None, Some, TextRow, ViewIsNext, and_parts, ap, arith, arrival_known, before_one, before_row, bookmark_in}
+use Rattle.dependency_book.proofs.Names.{bookmark_mark, get_or, is_known, is_ready, is_some, length, not, option_map, subst, suc, sym, true_eq, zero, ℕ, ◌<◌, ◌==◌, ◌∙◌, ◌≡◌}
 use Rattle.dependency_book.proofs.Placed.{bookmark_row, mark_of, mark_row, place_of_mark, row_comes, row_follows, row_stands, text_at}
-use Rattle.desk_events.proofs.Shared.Marks.{before_one}
-use Rattle.desk_events.proofs.Shared.Tests.{true_eq}
 
 -- the row of a step, by its place
 pub record StepRow (d : BookState) (m : Mark) (k : ℕ) : Type 0 where

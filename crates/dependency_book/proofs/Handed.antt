@@ -1,12 +1,5 @@
 -- Rows as they are handed out are those of the document's bookmarks, and their texts are right.
-use Rattle.std.proofs.Common.{◌≡◌, ℕ, ◌∙◌, List, [], ◌∷◌, get_or, map, refl, sym, ap, ap₂}
-use Rattle.std.proofs.ByRecursion.{All-map}
-use Rattle.std.specs.List.{AllByRecursion}
-use Rattle.dependency_book.specs.declared.row.Row.{Row}
-use Rattle.dependency_book.specs.BookState.{BookState}
-use Rattle.dependency_book.specs.Held.{IsHeldBook}
-use Rattle.dependency_book.specs.RowState.{known}
-use Rattle.dependency_book.specs.Rows.{TextRow, keys}
+use Rattle.dependency_book.proofs.Names.{All-map, AllByRecursion, BookState, IsHeldBook, List, Row, TextRow, [], ap, ap₂, get_or, keys, known, map, refl, sym, ℕ, ◌∙◌, ◌∷◌, ◌≡◌}
 use Rattle.dependency_book.specs.ShownRows.{IsScratch, handed, shown_row, shown_rows}
 use Rattle.dependency_book.proofs.Placed.{in_at, text_stands}
 use Rattle.dependency_book.proofs.Standing.{all_at}

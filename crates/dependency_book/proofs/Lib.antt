@@ -16,3 +16,4 @@ pub mod Showing
 pub mod Standing
 pub mod Unfelt
 pub mod Working
+pub mod Names

@@ -1,42 +1,14 @@
 -- What is needed next, by the rows.
-use Rattle.std.proofs.Common.{◌≡◌, ℕ, zero, suc, ◌<◌, ◌≤◌, ◌^◌, ◌∙◌, Bool, true, false, ◌&&◌, nat_lt, List, [], ◌∷◌, length, get_or, cond, refl, sym, ap, subst, arith, inl, inr, Option, None, Some}
-use Rattle.std.specs.Prelude.{is_some, count_by}
-use Rattle.std.specs.List.{AllByRecursion}
-use Rattle.std.proofs.lemmas.Bool.{and_parts}
-use Rattle.std.proofs.lemmas.List.{get_or_default}
+use Rattle.dependency_book.proofs.Names.{All-get_or, AllByRecursion, ArrivalRow, BookState, Bookmark, Bool, Branch, CanBeReached, CanBeViewed, ComesBefore, Empty, IsFirst, IsHeldBook, IsNextStep, IsNextView, IsNotAfter, IsSound, List, Mark}
+use Rattle.dependency_book.proofs.Names.{None, NothingOut, Option, Plan, Row, RowState, Some, TextRow, [], and_parts, ap, arith, arrival_known, arrival_row, before_one, before_row, bookmark_is_mark, bookmark_mark, bookmark_rank, branch_id}
+use Rattle.dependency_book.proofs.Names.{by_key, clash, cond, count_by, either_way, element_at, empty_rows_of, false, false_lt, get_or, get_or_default, inl, inr, is_empty, is_known, is_mark, is_pending, is_ready, is_some, is_start, job_of}
+use Rattle.dependency_book.proofs.Names.{keys, length, mark_rank, missing, nat_lt, nat_tests, never_falls, parents_before, pending_of, place_in, place_ready, places_of, rank_branches, rank_within, refl, steppable, subst, suc, sum_by-cons}
+use Rattle.dependency_book.proofs.Names.{sym, true, true_lt, viewable, zero, ℕ, ◌&&◌, ◌<◌, ◌^◌, ◌∙◌, ◌∷◌, ◌≡◌, ◌≤◌}
 use Rattle.std.proofs.lemmas.Option.{slice_get-get_or}
-use Rattle.std.proofs.ByRecursion.{All-get_or}
-use Rattle.std.proofs.lemmas.Bool.Decides.{nat_tests}
-use Rattle.std.proofs.lemmas.List.Sums.{sum_by-cons}
-use Rattle.ranked_rows.specs.Rows.{place_in}
-use Rattle.ranked_rows.proofs.Shared.Places.{never_falls}
-use Rattle.schedule.specs.declared.branch.Branch.{Branch}
-use Rattle.schedule.specs.declared.document.Bookmark.{Bookmark}
-use Rattle.schedule.specs.Branches.{element_at}
-use Rattle.schedule.specs.Ids.{branch_id}
-use Rattle.schedule.specs.Plan.{Plan}
-use Rattle.schedule.specs.Sound.{IsSound}
-use Rattle.schedule.proofs.Shared.Branches.{parents_before}
-use Rattle.dependency_book.specs.declared.row.Row.{Row}
-use Rattle.dependency_book.specs.declared.row.RowState.{RowState}
-use Rattle.dependency_book.specs.declared.row.RowState.TheVariants.{Empty}
-use Rattle.desk_events.specs.declared.mark.Mark.{Mark}
-use Rattle.dependency_book.specs.BookState.{BookState, NothingOut, arrival_row, arrival_known, is_pending, pending_of, empty_rows_of}
-use Rattle.dependency_book.specs.Held.{IsHeldBook, places_of}
-use Rattle.desk_events.specs.Marks.{ComesBefore, bookmark_mark, is_mark, is_start}
-use Rattle.dependency_book.specs.Needs.{CanBeViewed, CanBeReached, IsNotAfter, IsNextStep, IsNextView}
-use Rattle.dependency_book.specs.Ready.{IsFirst, before_row, is_ready, place_ready, viewable, steppable}
-use Rattle.dependency_book.specs.RowState.{is_known, is_empty, job_of}
-use Rattle.dependency_book.specs.Rows.{ArrivalRow, TextRow, by_key, keys, bookmark_rank}
-use Rattle.document_marks.specs.AllMarks.{mark_rank}
 use Rattle.dependency_book.proofs.Found.{ready_is}
 use Rattle.dependency_book.proofs.Outs.{each_out}
 use Rattle.dependency_book.proofs.Placed.{MarkRow, mark_of, forked, StandsIn, in_at, mark_row, place_of_mark, row_beside, row_comes, row_is, row_near, row_stands, stands_in, text_stands}
-use Rattle.desk_events.proofs.Shared.Marks.{before_one, bookmark_is_mark}
-use Rattle.document_marks.proofs.Shared.Ranks.{rank_branches, rank_within}
-use Rattle.dependency_book.specs.Puts.{missing}
 use Rattle.dependency_book.proofs.Standing.{empties}
-use Rattle.desk_events.proofs.Shared.Tests.{either_way, clash, false_lt, true_lt}
 
 empty_is : {V : Type 0} (s : RowState V) → is_empty s ≡ true → s ≡ Empty
 empty_is s h = grind arith

@@ -1,33 +1,10 @@
 -- Rows that expect jobs.
-use Rattle.std.proofs.Common.{◌≡◌, ℕ, suc, ◌<◌, ◌≤◌, ◌∙◌, ◌⊎◌, inl, inr, true, false, List, [], ◌∷◌, length, get_or, refl, sym, ap, subst, arith, Option, None, Some}
-use Rattle.std.specs.Prelude.{◌||◌, IfSome, IsSome, is_some, min}
-use Rattle.std.specs.List.{AllByRecursion}
-use Rattle.std.proofs.lemmas.Bool.Decides.{nat_tests}
-use Rattle.schedule.specs.declared.document.Bookmark.{Bookmark}
-use Rattle.schedule.specs.Ids.{IdsRise, bookmark_id}
-use Rattle.revision_jobs.specs.declared.answer.Job.{Job}
-use Rattle.revision_jobs.specs.declared.entries.Place.{Place}
-use Rattle.revision_jobs.specs.declared.entries.Entries.{Entries}
-use Rattle.revision_jobs.specs.Entries.{IsOf}
-use Rattle.revision_jobs.specs.Value.{pattern, text}
-use Rattle.dependency_book.specs.declared.row.RowState.{RowState}
-use Rattle.dependency_book.specs.declared.row.RowState.TheVariants.{Empty}
-use Rattle.dependency_book.specs.declared.row.Row.{Row}
-use Rattle.desk_events.specs.declared.mark.Mark.{Mark}
-use Rattle.desk_events.specs.declared.need.Need.{Need}
-use Rattle.desk_events.specs.declared.need.Need.TheVariants.{Step, View}
-use Rattle.dependency_book.specs.BookState.{BookState, arrival_row, text_row, expected}
-use Rattle.dependency_book.specs.Held.{IsHeldBook, places_of}
-use Rattle.dependency_book.specs.Right.{IsRightBook}
-use Rattle.dependency_book.specs.Jobs.{IsAnyOut, IsFirstOut}
-use Rattle.desk_events.specs.Needs.{step_to}
-use Rattle.desk_events.specs.Marks.{is_start, mark_at}
-use Rattle.dependency_book.specs.RowState.{any_out, job_of, state_map, has_number, named_by, either, row_for, lesser, least_out}
-use Rattle.dependency_book.specs.Rows.{ArrivalRow, TextRow, state_at, bookmark_rank}
-use Rattle.document_marks.specs.AllMarks.{mark_rank}
+use Rattle.dependency_book.proofs.Names.{AllByRecursion, ArrivalRow, BookState, Bookmark, Empty, Entries, IdsRise, IfSome, IsAnyOut, IsFirstOut, IsHeldBook, IsOf, IsRightBook, IsSome, Job, List, Mark, Need, None, Option, Place, Row}
+use Rattle.dependency_book.proofs.Names.{RowState, Some, Step, TextRow, View, [], any_out, ap, arith, arrival_row, bookmark_id, bookmark_rank, either, either_way, eq_true, expected, false, get_or, has_number, inl, inr, is_some, is_start}
+use Rattle.dependency_book.proofs.Names.{job_of, least_out, length, lesser, mark_at, mark_rank, min, named_by, nat_tests, pattern, places_of, refl, row_for, state_at, state_map, step_to, subst, suc, sym, text, text_row, true, ℕ, ◌<◌, ◌||◌}
+use Rattle.dependency_book.proofs.Names.{◌∙◌, ◌∷◌, ◌≡◌, ◌≤◌, ◌⊎◌}
 use Rattle.dependency_book.proofs.Standing.{all_at, ranked_by}
 use Rattle.dependency_book.proofs.Placed.{mark_of, row_stands, text_stands}
-use Rattle.desk_events.proofs.Shared.Tests.{either_way, eq_true}
 
 pub job_of-map : {V W : Type 0} (f : V → W) (s : RowState V) → job_of (state_map f s) ≡ job_of s
 job_of-map f s = grind arith

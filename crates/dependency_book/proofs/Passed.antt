@@ -1,32 +1,8 @@
 -- Rows before a cursor, which needn't be looked at again.
-use Rattle.std.proofs.Common.{◌≡◌, ◌⊎◌, ℕ, zero, suc, not, Bool, false, List, [], ◌∷◌, get_or, refl, ap₂, inr, is_some, arith}
-use Rattle.std.proofs.lemmas.Bool.Decides.{nat_tests}
-use Rattle.std.specs.Prelude.{if◌then◌else◌, slice_get, slice_index}
-use Rattle.std.specs.Option.{option_map_or}
-use Rattle.worlds.specs.World.{World}
-use Rattle.schedule.specs.declared.branch.Branch.{Branch}
-use Rattle.schedule.specs.Branches.{element_at}
-use Rattle.schedule.specs.Ids.{branch_id}
-use Rattle.revision_jobs.specs.declared.answer.Job.{Job}
-use Rattle.revision_jobs.specs.declared.entries.Place.{Place}
-use Rattle.revision_jobs.specs.Value.{pattern, text}
-use Rattle.step_facts.specs.Known.{Fact}
-use Rattle.desk_events.specs.declared.need.Need.TheVariants.{View}
-use Rattle.desk_events.specs.Needs.{step_to}
-use Rattle.dependency_book.specs.Puts.{CanBePut}
-use Rattle.dependency_book.specs.declared.cursor.Cursor.{Cursor}
-use Rattle.desk_events.specs.declared.mark.Mark.{Mark}
-use Rattle.dependency_book.specs.declared.row.RowState.{RowState}
-use Rattle.dependency_book.specs.declared.row.RowState.TheVariants.{Empty, Expected, Known}
-use Rattle.dependency_book.specs.declared.row.Row.{Row}
-use Rattle.dependency_book.specs.BookState.{BookState}
-use Rattle.dependency_book.specs.Cursor.{HasPassed, IsKeptBook, start}
-use Rattle.dependency_book.specs.Ready.{NoneBefore, before_in, before_row, is_ready, row_before, steppable, viewable}
-use Rattle.dependency_book.specs.RowState.{is_empty, is_known, job_of, state_map}
-use Rattle.dependency_book.specs.Rows.{ArrivalRow, TextRow, put, bookmark_rank, state_at}
-use Rattle.document_marks.specs.AllMarks.{mark_rank}
+use Rattle.dependency_book.proofs.Names.{ArrivalRow, BookState, Bool, Branch, CanBePut, Cursor, Empty, Expected, Fact, HasPassed, IsKeptBook, Job, Known, List, Mark, NoneBefore, Place, Row, RowState, TextRow, View, World, [], ap₂, arith}
+use Rattle.dependency_book.proofs.Names.{before_in, before_row, bookmark_rank, branch_id, either_way, element_at, false, get_or, if◌then◌else◌, inr, is_empty, is_known, is_ready, is_some, job_of, mark_rank, nat_tests, not, option_map_or}
+use Rattle.dependency_book.proofs.Names.{pattern, put, refl, row_before, slice_get, slice_index, start, state_at, state_map, step_to, steppable, suc, text, viewable, zero, ℕ, ◌∷◌, ◌≡◌, ◌⊎◌}
 use Rattle.dependency_book.proofs.Putting.{arrival_held, text_held, with_arrival, with_text}
-use Rattle.desk_events.proofs.Shared.Tests.{either_way}
 
 -- what is put stands in a row, or the row is as it was
 put_each : {K V : Type 0} (rank : K → ℕ) (n : ℕ) (s : RowState V) (rows : List (Row K V)) (k : ℕ)

@@ -1,32 +1,9 @@
 -- Marks and bookmarks by the places of their rows.
-use Rattle.std.proofs.Common.{◌≡◌, ℕ, zero, suc, ◌<◌, ◌≤◌, ◌^◌, ◌∙◌, true, false, List, [], ◌∷◌, length, get_or, refl, sym, ap, arith, inl, inr, Option, None, Some}
-use Rattle.std.specs.Prelude.{◌==◌, is_some}
-use Rattle.std.specs.Option.{option_map}
-use Rattle.std.specs.List.{AllByRecursion}
-use Rattle.std.proofs.ByRecursion.{All-get_or}
-use Rattle.std.proofs.lemmas.Bool.Decides.{nat_tests}
-use Rattle.schedule.specs.declared.branch.Branch.{Branch}
-use Rattle.schedule.specs.declared.document.Bookmark.{Bookmark}
-use Rattle.schedule.specs.Branches.{element_at}
-use Rattle.schedule.specs.Ids.{IdsRise, branch_id}
-use Rattle.schedule.specs.Plan.{Plan}
-use Rattle.schedule.specs.Sound.{IsForked}
-use Rattle.schedule.proofs.Shared.Branches.{element_at-is}
-use Rattle.ranked_rows.specs.Rows.{place_in, row_at}
-use Rattle.ranked_rows.proofs.Shared.Places.{Stands, never_falls, rank_rises, row_there, stands}
-use Rattle.desk_events.specs.declared.mark.Mark.{Mark}
-use Rattle.dependency_book.specs.BookState.{BookState, arrival_row, text_row}
-use Rattle.desk_events.specs.Wanted.{bookmark_in}
-use Rattle.dependency_book.specs.Held.{IsHeldBook}
-use Rattle.desk_events.specs.Marks.{ComesBefore, Precedes, forks_at, is_mark, is_start, mark_at}
-use Rattle.dependency_book.specs.Ready.{before_in, before_row, row_before}
-use Rattle.dependency_book.specs.Rows.{ArrivalRow, TextRow, by_key, keys, bookmark_rank}
-use Rattle.document_marks.specs.AllMarks.{mark_rank}
-use Rattle.desk_events.proofs.Shared.Listed.{found_any, none_listed}
-use Rattle.document_marks.proofs.Shared.Ranks.{has_mark, rank_generation, rank_is, rank_within, rank_zero}
-use Rattle.desk_events.proofs.Shared.Marks.{mark_placed, before_one}
+use Rattle.dependency_book.proofs.Names.{All-get_or, AllByRecursion, ArrivalRow, BookState, Bookmark, Branch, ComesBefore, IdsRise, IsForked, IsHeldBook, List, Mark, None, Option, Plan, Precedes, Some, Stands, TextRow, [], ap, arith}
+use Rattle.dependency_book.proofs.Names.{arrival_row, before_in, before_one, before_row, bookmark_in, bookmark_rank, branch_id, by_key, either_way, element_at, element_at-is, false, forks_at, found_any, get_or, has_mark, inl, inr, is_mark}
+use Rattle.dependency_book.proofs.Names.{is_some, is_start, keys, length, mark_at, mark_placed, mark_rank, nat_tests, never_falls, none_listed, option_map, place_in, rank_generation, rank_is, rank_rises, rank_within, rank_zero, refl}
+use Rattle.dependency_book.proofs.Names.{row_at, row_before, row_there, stands, suc, sym, text_row, true, true_eq, zero, ℕ, ◌<◌, ◌==◌, ◌^◌, ◌∙◌, ◌∷◌, ◌≡◌, ◌≤◌}
 use Rattle.dependency_book.proofs.Standing.{all_keys, has, has_row_at, has_stands, key_row, state_at-row, state_in, state_row}
-use Rattle.desk_events.proofs.Shared.Tests.{either_way, true_eq}
 
 -- a rank of a row that is below that of another isn't above that of the row before it
 before_le : {T : Type 0} (rank : T → ℕ) (rows : List T) (j p : ℕ) (d : T) → IdsRise rank rows

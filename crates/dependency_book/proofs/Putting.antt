@@ -1,38 +1,11 @@
 -- Books in which something is put in a row.
-use Rattle.std.proofs.Common.{◌≡◌, ℕ, ◌≤◌, ◌^◌, ◌∙◌, true, false, List, refl, sym, ap, subst, arith, Some}
-use Rattle.std.proofs.lemmas.Bool.Decides.{nat_tests}
-use Rattle.std.specs.Prelude.{if◌then◌else◌, map, Option, None}
-use Rattle.worlds.specs.World.{World}
-use Rattle.schedule.specs.declared.document.Bookmark.{Bookmark}
-use Rattle.schedule.specs.Plan.{Plan}
-use Rattle.revision_jobs.specs.declared.answer.Job.{Job}
-use Rattle.revision_jobs.specs.Value.{Value, pattern, text}
-use Rattle.desk_events.specs.declared.mark.Mark.{Mark}
-use Rattle.desk_events.specs.declared.need.Need.{Need}
-use Rattle.desk_events.specs.declared.need.Need.TheVariants.{Step, View}
-use Rattle.dependency_book.specs.declared.row.RowState.{RowState}
-use Rattle.dependency_book.specs.declared.row.RowState.TheVariants.{Known}
-use Rattle.document_marks.specs.AllMarks.{mark_rank}
-use Rattle.dependency_book.specs.BookState.{BookState, arrival_row, text_row, row_of}
-use Rattle.dependency_book.specs.Held.{IsHeldBook, places_of}
-use Rattle.desk_events.specs.Needs.{is_need, step_to}
-use Rattle.desk_events.specs.Marks.{bookmark_mark, is_mark, is_start, mark_at}
-use Rattle.dependency_book.specs.Puts.{CanBePut, PutsRow, can_change, missing}
-use Rattle.dependency_book.specs.Right.{IsRightBook, IsGiven}
-use Rattle.dependency_book.specs.RowState.{state_map, job_of}
-use Rattle.dependency_book.specs.Rows.{ArrivalRow, keys, state_at, put, bookmark_rank}
-use Rattle.ranked_rows.specs.Rows.{place_in}
-use Rattle.document_marks.proofs.Shared.Ranks.{has_mark, rank_test}
-use Rattle.desk_events.proofs.Shared.Marks.{mark_near}
+use Rattle.dependency_book.proofs.Names.{ArrivalRow, BookState, Bookmark, CanBePut, IsGiven, IsHeldBook, IsRightBook, Job, Known, List, Mark, Need, None, Option, Plan, PutsRow, RowState, Some, Step, Value, View, World, ap, arith, arrival}
+use Rattle.dependency_book.proofs.Names.{arrival_row, bookmark_in, bookmark_mark, bookmark_rank, can_change, core_of, either_way, false, has_mark, holds, if◌then◌else◌, is_mark, is_need, is_start, job_of, keys, map, mark_at, mark_near}
+use Rattle.dependency_book.proofs.Names.{mark_rank, missing, nat_tests, pattern, place_in, places_of, put, rank_test, refl, row_of, state_at, state_map, step_to, subst, sym, text, text_row, text_wanted, true, ℕ, ◌^◌, ◌∙◌, ◌≡◌, ◌≤◌}
 use Rattle.dependency_book.proofs.Outs.{held_by}
 use Rattle.dependency_book.proofs.Standing.{has, keys-put, state_at-put_same, state_at-put_other, place_in-keys, count-put}
-use Rattle.desk_events.proofs.Shared.Tests.{either_way}
 use Rattle.desk_events.specs.Right.{IsRight as IsRightCore, Stands}
 use Rattle.dependency_book.proofs.Shared.Cores.{put_core, put_there}
-use Rattle.schedule.specs.Scratch.{arrival}
-use Rattle.desk_events.specs.Core.{holds}
-use Rattle.desk_events.specs.Wanted.{bookmark_in, text_wanted}
-use Rattle.dependency_book.specs.Core.{core_of}
 
 -- a book in which something is put is right
 

@@ -1,13 +1,5 @@
 -- Whether what arrives at a mark is known, by the row of its rank.
-use Rattle.std.proofs.Common.{◌≡◌, ℕ, ◌+◌, Bool, true, false, List, refl, ap, arith}
-use Rattle.std.proofs.lemmas.Bool.Decides.{nat_tests}
-use Rattle.ranked_rows.specs.Rows.{row_at}
-use Rattle.desk_events.specs.declared.mark.Mark.{Mark}
-use Rattle.desk_events.specs.Marks.{is_start}
-use Rattle.dependency_book.specs.Ready.{NoneBefore, is_ready}
-use Rattle.dependency_book.specs.RowState.{is_known}
-use Rattle.dependency_book.specs.Rows.{ArrivalRow, by_key}
-use Rattle.document_marks.specs.AllMarks.{mark_rank}
+use Rattle.dependency_book.proofs.Names.{ArrivalRow, Bool, List, Mark, NoneBefore, ap, arith, by_key, false, is_known, is_ready, is_start, mark_rank, nat_tests, refl, row_at, true, ℕ, ◌+◌, ◌≡◌}
 use Rattle.dependency_book.proofs.Standing.{state_in, state_row}
 
 pub started : (rows : List ArrivalRow) (m : Mark) → is_start m ≡ true → true ≡ is_ready rows m

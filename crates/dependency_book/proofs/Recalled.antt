@@ -1,40 +1,19 @@
 -- What came of a step may be entered for the mark that the step leads to.
-use Rattle.std.proofs.Common.{◌≡◌, ◌∙◌, ℕ, List, [], ◌∷◌, ◌++◌, sym, ap, subst, true, Some, refl, inl, inr, arith}
-use Rattle.worlds.specs.World.{World}
+use Rattle.dependency_book.proofs.Names.{AddsOnly, Arc, AreGiven, BookState, Calls, CanBePut, CanRecall, Core, Empty, EntersSteps, Event, Fact, Fills, Follows, FreesOne, Global, IsCollect, IsFilled, IsRightBook, IsSome, JobResult, Known}
+use Rattle.dependency_book.proofs.Names.{List, Mark, NotExpected, Option, PutsRow, Recalled, Released, SameBook, Some, StepsFrom, StepsTo, TakesAnswer, WasGiven, World, [], after_event, answer_said, ap, arc_value, arith, can_change}
+use Rattle.dependency_book.proofs.Names.{collects, core_of, holds, inl, inr, option_map, pattern, plain_row, recalls, recalls_right, refl, row_of, same_comes, slice_get, step_said, step_to, steps, subst, sym, true, world_after, ℕ, ◌++◌}
+use Rattle.dependency_book.proofs.Names.{◌∙◌, ◌∷◌, ◌≡◌}
 use Rattle.revision_jobs.specs.declared.entry.Step.{Step as Stepping}
-use Rattle.revision_jobs.specs.Answer.{JobResult}
-use Rattle.revision_jobs.specs.Value.{pattern, world_after}
 use Rattle.dependency_book.specs.declared.filled.Filled.{Filled}
-use Rattle.dependency_book.specs.declared.filled.Filled.TheVariants.{Row, Released, NotExpected}
-use Rattle.desk_events.specs.declared.mark.Mark.{Mark}
-use Rattle.dependency_book.specs.declared.row.RowState.TheVariants.{Empty, Known}
-use Rattle.dependency_book.specs.BookState.{BookState, row_of}
-use Rattle.dependency_book.specs.Entered.{StepsTo}
-use Rattle.dependency_book.specs.Jobs.{FreesOne, IsFilled, SameBook}
-use Rattle.desk_events.specs.Needs.{step_to}
-use Rattle.dependency_book.specs.Puts.{CanBePut, PutsRow, can_change}
-use Rattle.dependency_book.specs.Recalled.{AreGiven, Fills, EntersSteps, WasGiven}
-use Rattle.dependency_book.specs.Right.{IsRightBook}
+use Rattle.dependency_book.specs.declared.filled.Filled.TheVariants.{Row}
 use Rattle.dependency_book.proofs.Shared.Recalling.{book_then, recalls_all, recalls_book, recalls_none, recalls_one, recalls_wanting}
-use Rattle.desk_events.specs.Core.{Core, holds, put}
-use Rattle.desk_events.specs.Entered.{StepsFrom}
+use Rattle.desk_events.specs.Core.{put}
 use Rattle.desk_events.specs.Entry.{world_after as core_after}
-use Rattle.desk_events.specs.Event.{CanRecall, Event, after_event, collects, recalls}
-use Rattle.desk_events.specs.Law.{Calls, Follows, Recalled}
 use Rattle.desk_events.specs.Law as core
 use Rattle.desk_events.specs.Right.{IsRight as IsRightCore}
-use Rattle.desk_events.proofs.Shared.Right.{recalls_right, same_comes}
-use Rattle.dependency_book.specs.Called.{IsCollect, TakesAnswer}
-use Rattle.dependency_book.specs.Core.{core_of, plain_row}
-use Rattle.dependency_book.specs.Said.{answer_said, step_said}
 use Rattle.dependency_book.proofs.Shared.Cores.{arrives_same, put_core}
-use Rattle.std.specs.Prelude.{IsSome, Option, slice_get}
-use Rattle.std.specs.Arc.{arc_value}
-use Rattle.std.specs.Option.{option_map}
-use Rattle.std.specs.declared.alloc.Global.{Global}
-use Rattle.std.specs.declared.sync.Arc.{Arc}
-use Rattle.step_facts.specs.Known.{AddsOnly, Fact, known}
-use Rattle.desk_events.specs.Entry.{Entry, steps}
+use Rattle.step_facts.specs.Known.{known}
+use Rattle.desk_events.specs.Entry.{Entry}
 use Rattle.step_facts.specs.Same.{Asked}
 
 -- a step that is remembered was given before

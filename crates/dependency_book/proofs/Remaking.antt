@@ -1,13 +1,5 @@
 -- Rows that were made anew from keys.
-use Rattle.std.proofs.Common.{arith, ◌≡◌, ℕ, Bool, List, [], ◌∷◌, refl, ap, Option, None, Some}
-use Rattle.std.proofs.lemmas.Bool.Decides.{nat_tests}
-use Rattle.std.specs.Prelude.{if◌then◌else◌}
-use Rattle.dependency_book.specs.declared.row.RowState.{RowState}
-use Rattle.dependency_book.specs.declared.row.RowState.TheVariants.{Empty}
-use Rattle.dependency_book.specs.declared.row.Row.{Row}
-use Rattle.dependency_book.specs.Remade.{kept_of, remade_rows}
-use Rattle.dependency_book.specs.Rows.{by_key, keys, state_at}
-use Rattle.ranked_rows.specs.Rows.{row_at}
+use Rattle.dependency_book.proofs.Names.{Bool, Empty, List, None, Option, Row, RowState, Some, [], ap, arith, by_key, if◌then◌else◌, kept_of, keys, nat_tests, refl, remade_rows, row_at, state_at, ℕ, ◌∷◌, ◌≡◌}
 
 -- what stood at a key that is there, if it stays
 abbrev pub if_stays : {K V : Type 0} → (K → Bool) → Option K → RowState V → RowState V

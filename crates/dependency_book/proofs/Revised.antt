@@ -1,48 +1,17 @@
 -- What stands after an edit is right, and just what the edit keeps.
-use Rattle.std.proofs.Common.{arith, ◌≡◌, ℕ, ◌∙◌, ◌^◌, ◌≤◌, Bool, false, ◌&&◌, List, [], ◌∷◌, refl, sym, ap, ap₂, subst, Option, None, Some, Ok, inl, inr}
-use Rattle.std.specs.Prelude.{if◌then◌else◌}
-use Rattle.std.specs.List.{AllByRecursion}
-use Rattle.std.proofs.lemmas.Bool.Decides.{nat_tests}
-use Rattle.worlds.specs.World.{World}
-use Rattle.schedule.specs.declared.branch.Branch.{Branch}
-use Rattle.schedule.specs.declared.document.Bookmark.{Bookmark}
+use Rattle.dependency_book.proofs.Names.{AllByRecursion, AreMarksOf, AreRemade, ArrivalRow, Asked, BookFeels, BookState, Bookmark, Bool, Branch, Changed, Empty, EntersSteps, IsEdit, IsFelt, IsRightBook, IsSound, Job, KeepsRows, KeepsUnfelt}
+use Rattle.dependency_book.proofs.Names.{List, Mark, MayBeAsked, Need, None, Ok, Option, Plan, Row, Some, Step, TextRow, View, World, [], accepted, after_event, ap, ap₂, arith, arrival_after, arrival_in, arrival_known, arrival_row}
+use Rattle.dependency_book.proofs.Names.{bookmark_in, bookmark_rank, bookmark_stays, by_key, change, changed, core_of, edits, edits_right_on, expected, false, has_mark, if◌then◌else◌, inl, inr, is_mark, is_start, keeps_arrival, kept_row}
+use Rattle.dependency_book.proofs.Names.{keys, made, mark_at, mark_rank, mark_stays, nat_tests, plain_row, rank_is, refl, refusal, remade_rows, row_at, row_of, state_at, subst, sym, text_kept, text_row, unless_refused, unrefused, ℕ, ◌&&◌}
+use Rattle.dependency_book.proofs.Names.{◌^◌, ◌∙◌, ◌∷◌, ◌≡◌, ◌≤◌}
 use Rattle.schedule.specs.declared.edit.Edited.{Edited}
-use Rattle.schedule.specs.Plan.{Plan}
-use Rattle.schedule.specs.Asked.{Asked}
-use Rattle.schedule.specs.Change.{Changed, change, changed, made, refusal, unless_refused}
-use Rattle.schedule.specs.Sound.{IsSound}
-use Rattle.revision_jobs.specs.declared.answer.Job.{Job}
-use Rattle.dependency_book.specs.declared.row.Row.{Row}
-use Rattle.dependency_book.specs.declared.row.RowState.TheVariants.{Empty}
-use Rattle.desk_events.specs.declared.mark.Mark.{Mark}
-use Rattle.desk_events.specs.declared.need.Need.{Need}
-use Rattle.desk_events.specs.declared.need.Need.TheVariants.{Step, View}
-use Rattle.document_marks.specs.AllMarks.{AreMarksOf, mark_rank}
-use Rattle.dependency_book.specs.BookState.{BookState, arrival_known, arrival_row, text_row, row_of, expected}
-use Rattle.desk_events.specs.Wanted.{bookmark_in}
-use Rattle.dependency_book.specs.Felt.{BookFeels}
-use Rattle.desk_events.specs.Felt.{IsFelt}
-use Rattle.dependency_book.specs.Kept.{KeepsRows, KeepsUnfelt, arrival_after, bookmark_stays, mark_stays, text_kept}
-use Rattle.desk_events.specs.Kept.{keeps_arrival}
-use Rattle.desk_events.specs.Marks.{is_mark, is_start, mark_at}
 use Rattle.dependency_book.specs.declared.room.Rows.{Rows}
-use Rattle.dependency_book.specs.Remade.{AreRemade, remade_rows}
-use Rattle.ranked_rows.specs.Rows.{row_at}
-use Rattle.dependency_book.specs.Right.{IsRightBook}
-use Rattle.dependency_book.specs.Rows.{ArrivalRow, TextRow, by_key, keys, state_at, bookmark_rank}
 use Rattle.dependency_book.proofs.Followed.{MayBeFelt, stays_for, texts_stay}
-use Rattle.document_marks.proofs.Shared.Grown.{accepted, unrefused}
-use Rattle.document_marks.proofs.Shared.Ranks.{has_mark, rank_is}
 use Rattle.dependency_book.proofs.Placed.{first_is}
 use Rattle.dependency_book.proofs.Remaking.{kept_for, keys-remade, state_at-remade}
 use Rattle.dependency_book.proofs.Standing.{has, key_row, state_at-above, state_row}
-use Rattle.desk_events.specs.Core.{arrival_in}
-use Rattle.desk_events.specs.Event.{MayBeAsked, after_edit as core_after_edit, after_event, edits, kept_row}
+use Rattle.desk_events.specs.Event.{after_edit as core_after_edit}
 use Rattle.desk_events.specs.Right.{IsRight as IsRightCore}
-use Rattle.desk_events.proofs.Shared.Right.{edits_right_on}
-use Rattle.dependency_book.specs.Called.{IsEdit}
-use Rattle.dependency_book.specs.Core.{core_of, plain_row}
-use Rattle.dependency_book.specs.Recalled.{EntersSteps}
 use Rattle.dependency_book.proofs.Shared.Cores.{arrives_same, same_core}
 use Rattle.dependency_book.proofs.Recalled.{recalls_follow}
 

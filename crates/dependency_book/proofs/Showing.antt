@@ -1,11 +1,5 @@
 -- What is shown of a bookmark, by the row of its id.
-use Rattle.std.proofs.Common.{◌≡◌, ℕ, ◌∙◌, List, refl, ap, None, Some}
-use Rattle.std.specs.Option.{option_map}
-use Rattle.dependency_book.specs.BookState.{BookState, text_row}
-use Rattle.desk_events.specs.Wanted.{bookmark_in}
-use Rattle.dependency_book.specs.Held.{IsHeldBook}
-use Rattle.dependency_book.specs.RowState.{known}
-use Rattle.dependency_book.specs.Rows.{TextRow, bookmark_rank}
+use Rattle.dependency_book.proofs.Names.{BookState, IsHeldBook, List, None, Some, TextRow, ap, bookmark_in, bookmark_rank, known, option_map, refl, text_row, ℕ, ◌∙◌, ◌≡◌}
 use Rattle.dependency_book.specs.Shown.{IsCurrent, IsPending}
 use Rattle.dependency_book.proofs.Placed.{bookmark_row, text_at}
 use Rattle.dependency_book.proofs.Standing.{state_in, state_row}

@@ -1,21 +1,6 @@
 -- Rows by rising ranks of their keys: what stands at a rank, where its row is, and what is put there.
-use Rattle.std.proofs.Common.{◌≡◌, ℕ, zero, suc, ◌+◌, ◌<◌, ◌≢◌, Bool, true, false, List, [], ◌∷◌, length, get_or, refl, arith, Option, None, Some}
-use Rattle.std.specs.Prelude.{◌==◌, count_by, is_some}
-use Rattle.std.specs.Option.{option_map}
-use Rattle.std.specs.List.{list_any, AllByRecursion}
-use Rattle.std.proofs.Math.ListN.{set}
-use Rattle.std.proofs.lemmas.Bool.Decides.{nat_tests}
-use Rattle.std.proofs.lemmas.List.{length-map}
-use Rattle.std.proofs.lemmas.List.Sums.{sum_by-cons}
-use Rattle.schedule.specs.Ids.{IdsRise}
-use Rattle.ranked_rows.specs.Rows.{place_in, row_at}
-use Rattle.ranked_rows.proofs.Shared.Places.{Stands, above_at, row_there, stands}
-use Rattle.dependency_book.specs.declared.row.RowState.{RowState}
-use Rattle.dependency_book.specs.declared.row.RowState.TheVariants.{Empty}
-use Rattle.dependency_book.specs.declared.row.Row.{Row}
-use Rattle.dependency_book.specs.Puts.{missing}
-use Rattle.dependency_book.specs.RowState.{is_empty}
-use Rattle.dependency_book.specs.Rows.{keys, by_key, IsRanked, state_at, put}
+use Rattle.dependency_book.proofs.Names.{AllByRecursion, Bool, Empty, IdsRise, IsRanked, List, None, Option, Row, RowState, Some, Stands, [], above_at, arith, by_key, count_by, false, get_or, is_empty, is_some, keys, length, length-map}
+use Rattle.dependency_book.proofs.Names.{list_any, missing, nat_tests, option_map, place_in, put, refl, row_at, row_there, set, stands, state_at, suc, sum_by-cons, true, zero, ℕ, ◌+◌, ◌<◌, ◌==◌, ◌∷◌, ◌≡◌, ◌≢◌}
 
 -- whether a key has a rank
 abbrev pub has : {K : Type 0} → (K → ℕ) → ℕ → List K → Bool

@@ -1,21 +1,9 @@
 -- An edit of interventions that is felt nowhere.
-use Rattle.std.proofs.Common.{◌≡◌, ℕ, ◌∙◌, Bool, true, ◌&&◌, nat_le, List, [], ◌∷◌, refl, sym, ap, subst, Option, Some}
-use Rattle.std.specs.Prelude.{◌==◌, ◌↔◌, IsTrue}
-use Rattle.std.specs.List.{AllByRecursion, list_any}
-use Rattle.std.proofs.lemmas.Bool.{and_from, and_parts, or_right}
+use Rattle.dependency_book.proofs.Names.{AllByRecursion, Asked, BookIsUnfelt, BookIsUnfeltAt, BookIsUnfeltWhere, BookState, Bool, IsTrue, List, Option, Some, UnfeltTouch, [], acts_on, and_from, and_parts, any_so, ap, arrival_known, changed}
+use Rattle.dependency_book.proofs.Names.{eq_true, generations_to, le_true, list_any, mark_at, nat_le, or_right, reach, refl, subst, sym, touched_by, true, true_eq, true_le, ℕ, ◌&&◌, ◌==◌, ◌↔◌, ◌∙◌, ◌∷◌, ◌≡◌}
 use Rattle.schedule.specs.declared.acts.Acts.{Acts}
-use Rattle.schedule.specs.Acts.{acts_on, generations_to}
-use Rattle.schedule.specs.Asked.{Asked}
-use Rattle.schedule.specs.Branches.{reach}
-use Rattle.schedule.specs.Change.{changed}
 use Rattle.schedule.proofs.Shared.Acts.{any-generations}
 use Rattle.desk_events.specs.declared.touched.Touched.{Touched}
-use Rattle.dependency_book.specs.BookState.{BookState, arrival_known}
-use Rattle.dependency_book.specs.Felt.{BookIsUnfelt, BookIsUnfeltAt, BookIsUnfeltWhere}
-use Rattle.desk_events.specs.Felt.{UnfeltTouch, touched_by}
-use Rattle.desk_events.specs.Marks.{mark_at}
-use Rattle.desk_events.proofs.Shared.Listed.{any_so}
-use Rattle.desk_events.proofs.Shared.Tests.{eq_true, le_true, true_eq, true_le}
 
 -- at one generation after another
 

@@ -1,55 +1,18 @@
 -- Jobs that rows expect, and what their answers give.
-use Rattle.std.proofs.Common.{◌≡◌, ◌⊎◌, ℕ, ◌++◌, ◌∙◌, Bool, true, false, List, refl, sym, ap, subst, inl, inr, arith, Option, None, Some, Result, Ok, Err}
-use Rattle.std.specs.Prelude.{[], ◌∷◌, IfOk, IfSome, if◌then◌else◌, slice_get}
-use Rattle.std.proofs.ByRecursion.{All-push}
-use Rattle.std.proofs.Math.Path.{fun_ext}
-use Rattle.std.proofs.lemmas.Bool.Decides.{nat_tests}
+use Rattle.dependency_book.proofs.Names.{All-push, Answer, BookState, Bookmark, Bool, Calls, CanBePut, CanIssue, Cursor, Empty, Entry, Err, Expected, Fact, IfOk, IfSome, IsCancel, IsCollect, IsEntryFrom, IsFilled, IsGiven, IsIssue}
+use Rattle.dependency_book.proofs.Names.{IsKeptBook, IsNext, IsNextJob, IsOf, IsRightAnswer, IsRightBook, IsTrueAnswer, Job, JobResult, List, Mark, Need, None, NotExpected, Ok, Option, Place, Plan, PutsRow, Result, RowState, Some, Step}
+use Rattle.dependency_book.proofs.Names.{StepExpects, TakesAnswer, Value, View, [], after_event, answer_said, answered, ap, arith, awaits, bookmark_id, bookmark_in, bookmark_rank, can_change, cancelled, cancels, clash, collects, core_of}
+use Rattle.dependency_book.proofs.Names.{either_way, entry_of, eq_false, eq_true, expected, false, filled_by, fun_ext, get_last, get_left, given_by, has_id, has_mark, has_number, if◌then◌else◌, index_of, inl, inr, is_job, is_mark, is_need}
+use Rattle.dependency_book.proofs.Names.{is_start, job_of, keys, mark_at, mark_rank, missing, nat_tests, need_is, need_same, nothing, plain_row, refl, row_of, said, said_at, slice_get, state_map, step_to, steps, subst, sym, text}
+use Rattle.dependency_book.proofs.Names.{text_wanted, true, value, value_in, with_refusal, ℕ, ◌++◌, ◌∙◌, ◌∷◌, ◌≡◌, ◌⊎◌}
 use Rattle.step_engine.specs.declared.evolved.EvolveFault.{EvolveFault}
-use Rattle.schedule.specs.declared.document.Bookmark.{Bookmark}
-use Rattle.schedule.specs.Plan.{Plan}
-use Rattle.schedule.specs.Ids.{has_id, bookmark_id}
-use Rattle.revision_jobs.specs.declared.entry.Entry.{Entry}
 use Rattle.revision_jobs.specs.declared.entry.Entry.TheVariants as entry
-use Rattle.revision_jobs.specs.declared.answer.Job.{Job}
-use Rattle.revision_jobs.specs.declared.entries.Place.{Place}
-use Rattle.revision_jobs.specs.Answer.{JobResult, IsRightAnswer}
-use Rattle.revision_jobs.specs.Entries.{IsOf, entry_of, index_of}
 use Rattle.revision_jobs.specs.Room.{HasNoRoom}
-use Rattle.revision_jobs.specs.Value.{Value, text, value}
-use Rattle.step_facts.specs.Known.{Fact}
-use Rattle.desk_events.specs.declared.mark.Mark.{Mark}
-use Rattle.desk_events.specs.declared.need.Need.{Need}
-use Rattle.desk_events.specs.declared.need.Need.TheVariants.{Step, View}
-use Rattle.desk_events.specs.Core.{Answer, awaits, nothing, put}
-use Rattle.desk_events.specs.Entered.{IsEntryFrom}
-use Rattle.desk_events.specs.Entry.{steps, value as core_value}
-use Rattle.desk_events.specs.Event.{CanIssue, IsTrueAnswer, after_event, answered as core_answered, cancelled as core_cancelled, cancels, collects}
-use Rattle.desk_events.specs.Law.{Calls}
-use Rattle.desk_events.specs.Marks.{is_mark, is_start, mark_at}
-use Rattle.desk_events.specs.Needs.{is_need, step_to}
+use Rattle.desk_events.specs.Core.{put}
+use Rattle.desk_events.specs.Entry.{value as core_value}
+use Rattle.desk_events.specs.Event.{answered as core_answered, cancelled as core_cancelled}
 use Rattle.desk_events.specs.Right.{IsRight as IsRightCore}
-use Rattle.desk_events.specs.Wanted.{bookmark_in, text_wanted}
-use Rattle.desk_events.proofs.Shared.Needs.{need_is, need_same}
-use Rattle.desk_events.proofs.Shared.Right.{get_last, get_left}
 use Rattle.desk_events.proofs.Shared.Right as core
-use Rattle.desk_events.proofs.Shared.Tests.{either_way, clash, eq_true, eq_false}
-use Rattle.document_marks.specs.AllMarks.{mark_rank}
-use Rattle.document_marks.proofs.Shared.Ranks.{has_mark}
-use Rattle.dependency_book.specs.declared.cursor.Cursor.{Cursor}
-use Rattle.dependency_book.specs.declared.filled.Filled.TheVariants.{NotExpected}
-use Rattle.dependency_book.specs.declared.row.RowState.{RowState}
-use Rattle.dependency_book.specs.declared.row.RowState.TheVariants.{Empty, Expected}
-use Rattle.dependency_book.specs.BookState.{BookState, row_of, expected, with_refusal}
-use Rattle.dependency_book.specs.Called.{IsCancel, IsCollect, IsIssue, TakesAnswer}
-use Rattle.dependency_book.specs.Core.{core_of, plain_row}
-use Rattle.dependency_book.specs.Cursor.{IsKeptBook}
-use Rattle.dependency_book.specs.Jobs.{is_job, given_by, answered, cancelled, IsFilled, IsNextJob, StepExpects}
-use Rattle.dependency_book.specs.Needs.{IsNext}
-use Rattle.dependency_book.specs.Puts.{CanBePut, PutsRow, can_change, filled_by, missing}
-use Rattle.dependency_book.specs.Right.{IsGiven, IsRightBook}
-use Rattle.dependency_book.specs.RowState.{job_of, has_number, state_map}
-use Rattle.dependency_book.specs.Rows.{keys, bookmark_rank}
-use Rattle.dependency_book.specs.Said.{answer_said, said, said_at, value_in}
 use Rattle.dependency_book.proofs.Outs.{held_by, numbered}
 use Rattle.dependency_book.proofs.Standing.{has, state_at-above}
 use Rattle.dependency_book.proofs.Shared.Cores.{arrives_same, core as desk, expected_state, expected_wants, once, put_core}

@@ -1,33 +1,12 @@
 -- What feeding a post does with each job.
-use Rattle.std.proofs.Common.{◌≡◌, ◌⊎◌, ℕ, ◌+◌, ◌∙◌, Bool, true, refl, sym, ap, subst, inl, inr, arith, Option, None, Some}
-use Rattle.std.specs.Prelude.{if◌then◌else◌}
-use Rattle.std.proofs.lemmas.Bool.Decides.{nat_tests}
-use Rattle.revision_jobs.specs.declared.answer.Job.{Job}
-use Rattle.revision_jobs.specs.declared.post.Sent.{Sent}
-use Rattle.revision_jobs.specs.declared.post.Sent.TheVariants.{Taken}
-use Rattle.revision_jobs.specs.Posted.{PostView, Sends}
-use Rattle.revision_jobs.specs.Value.{Value}
-use Rattle.dependency_book.specs.declared.row.RowState.{RowState}
-use Rattle.dependency_book.specs.declared.row.RowState.TheVariants.{Empty, Expected}
-use Rattle.desk_events.specs.declared.need.Need.{Need}
-use Rattle.dependency_book.specs.RowState.{job_of}
-use Rattle.dependency_book.specs.Jobs.{cancelled}
-use Rattle.desk_events.specs.Needs.{is_need}
-use Rattle.dependency_book.specs.BookState.{BookState, given_of, row_of}
+use Rattle.desk_core.proofs.Names.{BookState, Bool, Cancels, Cause, Comes, Empty, Expected, FeedsOn, IsRightBook, IssueFault, IssuesFor, Job, Need, None, Option, PostView, RefusesIssue, RowState, Sends, Sent, Serves, Some, Taken, Value, ap}
+use Rattle.desk_core.proofs.Names.{arith, at_rest, cancelled, cause_of_issue, given_of, if◌then◌else◌, inl, inr, is_need, job_of, nat_tests, need_is, need_same, ready, refl, row_of, stage, subst, sym, true, ℕ, ◌+◌, ◌∙◌, ◌≡◌, ◌⊎◌}
 use Rattle.dependency_book.specs.Needs.{IsNext}
-use Rattle.dependency_book.specs.Right.{IsRightBook}
-use Rattle.desk_core.specs.declared.cause.Cause.{Cause}
-use Rattle.desk_core.specs.declared.issue.IssueFault.{IssueFault}
-use Rattle.desk_core.specs.Cause.{cause_of_issue}
 use Rattle.desk_core.specs.Polling.{IsCauseOf}
 use Rattle.desk_core.specs.Feed.{FedUntil, floor_after}
-use Rattle.desk_core.specs.Issued.{IssuesFor, RefusesIssue}
-use Rattle.desk_core.specs.Progress.{Cancels, Comes, FeedsOn, at_rest, ready, stage}
-use Rattle.desk_core.specs.Settling.{Serves}
 use Rattle.desk_core.proofs.Known.{stays-issued}
 use Rattle.desk_core.proofs.Steps.{GoesOn-cancelled, GoesOn-idle, GoesOn-issued, GoesOn-on, GoesOn-refused, GoesOn-sent, HasCome-first, Idles-refused, Keeps-come, ServesOn-come, barred}
 use Rattle.desk_core.proofs.Shared.Given.{same_given, issued_given}
-use Rattle.desk_events.proofs.Shared.Needs.{need_is, need_same}
 use Rattle.dependency_book.proofs.Shared.Cores.{once}
 
 -- so many jobs were taken so far, and all that were given

@@ -1,20 +1,6 @@
 -- What is known stays so while jobs come and go.
-use Rattle.std.proofs.Common.{◌≡◌, ◌⊎◌, ℕ, ◌∙◌, Bool, true, sym, ap, arith}
-use Rattle.std.specs.Prelude.{if◌then◌else◌}
-use Rattle.revision_jobs.specs.declared.answer.Job.{Job}
-use Rattle.revision_jobs.specs.Answer.{JobResult}
-use Rattle.revision_jobs.specs.Value.{Value}
-use Rattle.dependency_book.specs.declared.row.RowState.{RowState}
-use Rattle.dependency_book.specs.declared.row.RowState.TheVariants.{Empty, Expected, Known}
-use Rattle.desk_events.specs.declared.need.Need.{Need}
-use Rattle.dependency_book.specs.Jobs.{answered, cancelled}
-use Rattle.desk_events.specs.Needs.{is_need}
-use Rattle.dependency_book.specs.BookState.{BookState, row_of}
-use Rattle.dependency_book.specs.Recalled.{Fills}
-use Rattle.dependency_book.proofs.Shared.Recalling.{Stays, recalls_row}
-use Rattle.desk_events.proofs.Shared.Needs.{need_is}
-use Rattle.desk_core.specs.Issued.{IssuesFor}
-use Rattle.desk_core.specs.Settling.{KeepsKnown}
+use Rattle.desk_core.proofs.Names.{BookState, Bool, Empty, Expected, Fills, IssuesFor, Job, JobResult, KeepsKnown, Known, Need, RowState, Stays, Value, answered, ap, arith, cancelled, if◌then◌else◌, is_need, need_is, recalls_row, row_of}
+use Rattle.desk_core.proofs.Names.{sym, true, ℕ, ◌∙◌, ◌≡◌, ◌⊎◌}
 
 -- what was known stays where rows in which something stood do
 pub KeepsKnown-stays : (old new : BookState)

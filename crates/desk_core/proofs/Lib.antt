@@ -7,3 +7,4 @@ mod Run
 pub mod Shared
 mod Steps
 mod Turns
+pub mod Names

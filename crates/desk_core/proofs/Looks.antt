@@ -1,10 +1,6 @@
 -- One look at a settling after another.
-use Rattle.std.proofs.Common.{◌≡◌, inl, inr, ◌+◌, List, [], ◌∷◌, ◌++◌, length, Bool, true, false, refl, sym, subst, arith}
-use Rattle.std.proofs.lemmas.List.{length-append}
-use Rattle.revision_jobs.specs.Posted.{PostView}
+use Rattle.desk_core.proofs.Names.{AreOfPlan, BookState, Bool, List, LooksAt, LooksAtEach, LooksIfAnswered, LooksOn, PostView, [], arith, false, inl, inr, length, length-append, refl, subst, sym, true, ◌++◌, ◌+◌, ◌∷◌, ◌≡◌}
 use Rattle.schedule.specs.Plan.{Plan}
-use Rattle.dependency_book.specs.BookState.{BookState}
-use Rattle.desk_core.specs.Looks.{LooksAt, LooksAtEach, AreOfPlan, LooksOn, LooksIfAnswered}
 
 -- one more desk of the document
 of_plan_too : (plan : Plan) (ds : List BookState) (d : BookState) → AreOfPlan plan ds → d.plan ≡ plan

@@ -1,21 +1,7 @@
 -- Jobs that are out after one is issued, answered or cancelled.
-use Rattle.std.proofs.Common.{◌≡◌, ◌⊎◌, ℕ, Bool, true, false, refl, subst, arith, Option, None, Some, Result}
-use Rattle.std.specs.Prelude.{if◌then◌else◌, IsSome}
-use Rattle.std.proofs.lemmas.Bool.Decides.{nat_tests}
-use Rattle.step_engine.specs.declared.evolved.EvolveFault.{EvolveFault}
-use Rattle.revision_jobs.specs.declared.answer.Job.{Job}
-use Rattle.revision_jobs.specs.Answer.{JobResult}
-use Rattle.revision_jobs.specs.Value.{Value}
-use Rattle.dependency_book.specs.declared.row.RowState.{RowState}
-use Rattle.dependency_book.specs.declared.row.RowState.TheVariants.{Empty, Expected}
-use Rattle.desk_events.specs.declared.need.Need.{Need}
-use Rattle.dependency_book.specs.RowState.{job_of, has_number}
-use Rattle.dependency_book.specs.Jobs.{given_by, is_job, issued, cancelled, IsAnyOut}
-use Rattle.desk_events.specs.Needs.{is_need}
-use Rattle.dependency_book.specs.BookState.{BookState, row_of, expected}
-use Rattle.dependency_book.specs.Recalled.{Fills}
+use Rattle.desk_core.proofs.Names.{BookState, Bool, Empty, EvolveFault, Expected, Fills, IsAnyOut, IsAtHand, IsSome, Job, JobResult, Need, None, Option, Result, RowState, Some, Value, arith, cancelled, expected, false, given_by, has_number}
+use Rattle.desk_core.proofs.Names.{if◌then◌else◌, is_job, is_need, issued, job_of, nat_tests, refl, row_of, subst, true, ℕ, ◌≡◌, ◌⊎◌}
 use Rattle.desk_core.proofs.Shared.Recalled.{recalls_out}
-use Rattle.desk_core.specs.Progress.{IsAtHand}
 
 -- a job is issued
 pub issued_out : (old new : BookState) (need : Need) (job : Job)

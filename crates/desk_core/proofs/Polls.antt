@@ -1,14 +1,6 @@
 -- What a poll collects, and what it feeds then.
-use Rattle.std.proofs.Common.{◌≡◌, ◌⊎◌, ℕ, ◌+◌, ◌≤◌, ◌∙◌, List, [], ◌∷◌, ◌++◌, length, refl, sym, ap, subst, inl, arith, Option, None, Some}
-use Rattle.std.proofs.lemmas.Grind.{common_steps}
-use Rattle.revision_jobs.specs.Answer.{JobResult}
-use Rattle.revision_jobs.specs.Posted.{PostView}
-use Rattle.dependency_book.specs.BookState.{BookState, given_of}
-use Rattle.desk_core.specs.declared.cause.Cause.{Cause}
-use Rattle.desk_core.specs.declared.progress.Progress.{Progress}
-use Rattle.desk_core.specs.declared.unsent.Unsent.TheVariants.{Nothing}
-use Rattle.desk_core.specs.Progress.{CollectsOn, HasCome, at_rest, job_in, stage}
-use Rattle.desk_core.specs.Settling.{GivesAtMost}
+use Rattle.desk_core.proofs.Names.{BookState, Cause, CollectsOn, GivesAtMost, HasCome, JobResult, List, None, Nothing, Option, PostView, Progress, Some, [], ap, arith, at_rest, common_steps, given_of, inl, job_in, length, refl, stage}
+use Rattle.desk_core.proofs.Names.{subst, sym, ℕ, ◌++◌, ◌+◌, ◌∙◌, ◌∷◌, ◌≡◌, ◌≤◌, ◌⊎◌}
 use Rattle.desk_core.proofs.Steps.{GoesOn-idle, GoesOn-told, Idles, Keeps-come, ServesOn-come}
 
 -- how many answers came

@@ -1,12 +1,11 @@
 -- Calls on a desk are calls on the desk of the law that it shows.
-use Rattle.std.proofs.Common.{List, [], ◌∷◌, ap, subst}
+use Rattle.desk_core.proofs.Names.{BookState, List, [], ap, opened, subst, ◌∷◌}
 use Rattle.desk_events.specs.Core.{Core}
 use Rattle.desk_events.specs.Law as core
 use Rattle.desk_events.specs.Right.{IsShown}
 use Rattle.desk_events.specs.Core.{shown}
 use Rattle.desk_events.proofs.Shared.Called.{calls_are_events}
 use Rattle.desk_events.proofs.Shared.Stays.{shows_only_scratch}
-use Rattle.dependency_book.specs.BookState.{BookState, opened}
 use Rattle.dependency_book.specs.Core.{core_of}
 use Rattle.dependency_book.proofs.Shared.Opened.{opened_core}
 use Rattle.desk_core.specs.Run.{AreCalls, ShowsOnlyScratch}

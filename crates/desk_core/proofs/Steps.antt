@@ -1,35 +1,13 @@
 -- How a settling goes on by what is issued, sent, answered and cancelled.
-use Rattle.std.proofs.Common.{◌≡◌, ◌⊎◌, ℕ, true, ◌+◌, ◌<◌, ◌≤◌, ◌∙◌, List, [], ◌∷◌, ◌++◌, length, refl, sym, ap, subst, inl, inr, arith, append-nil, append_assoc, Option, None, Some, Err, false}
-use Rattle.std.specs.Prelude.{IfSome, is_some, unwrap_or}
-use Rattle.std.proofs.lemmas.List.{length-map}
-use Rattle.step_engine.specs.declared.evolved.EvolveFault.{EvolveFault}
-use Rattle.revision_jobs.specs.declared.answer.Job.{Job}
+use Rattle.desk_core.proofs.Names.{BookState, CanSendNext, CancelsAny, Cause, Err, EvolveFault, Explains, Fills, GivesAtMost, GoesOn, HasCome, IfSome, IsOf, IsOwnAnswer, IsRightBook, IssueFault, IssuesFor, Job, JobResult, KeepsKnown}
+use Rattle.desk_core.proofs.Names.{KeepsWhatIsKnown, List, Need, None, Nothing, Option, PostView, Progress, Receives, RefusesIssue, SameBook, SameDocument, SawStop, Sends, Sent, Serves, ServesOn, Settles, Some, Stage, Taken, TellsCause, []}
+use Rattle.desk_core.proofs.Names.{ap, append-nil, append_assoc, arith, cause_of_answer, cause_of_issue, empty_rows_of, expected, false, few_rows, given_of, inl, inr, is_some, job_in, job_of, keys, length, length-map, ready, refl, row_of}
+use Rattle.desk_core.proofs.Names.{stage, subst, sym, true, unwrap_or, ℕ, ◌++◌, ◌+◌, ◌<◌, ◌∙◌, ◌∷◌, ◌≡◌, ◌≤◌, ◌⊎◌}
 use Rattle.revision_jobs.specs.declared.post.Received.TheVariants as received
-use Rattle.revision_jobs.specs.declared.post.Sent.{Sent}
-use Rattle.revision_jobs.specs.declared.post.Sent.TheVariants.{Taken}
-use Rattle.revision_jobs.specs.Answer.{JobResult}
-use Rattle.revision_jobs.specs.Entries.{IsOf}
-use Rattle.revision_jobs.specs.Posted.{IsOwnAnswer, PostView, Receives, Sends}
-use Rattle.desk_events.specs.declared.need.Need.{Need}
-use Rattle.dependency_book.specs.Jobs.{SameBook, SameDocument}
-use Rattle.dependency_book.specs.BookState.{BookState, given_of, expected, row_of, empty_rows_of}
-use Rattle.dependency_book.specs.Recalled.{Fills}
-use Rattle.dependency_book.specs.RowState.{job_of}
-use Rattle.dependency_book.specs.Right.{IsRightBook}
 use Rattle.dependency_book.specs.declared.row.Row.{Row}
-use Rattle.dependency_book.specs.Rows.{keys}
-use Rattle.dependency_book.proofs.Shared.Settled.{few_rows}
-use Rattle.desk_core.specs.declared.cause.Cause.{Cause}
 use Rattle.desk_core.specs.declared.collect.Collected.{Collected}
 use Rattle.desk_core.specs.declared.collect.Collected.TheVariants.{Released}
-use Rattle.desk_core.specs.declared.issue.IssueFault.{IssueFault}
-use Rattle.desk_core.specs.declared.progress.Progress.{Progress}
-use Rattle.desk_core.specs.declared.unsent.Unsent.TheVariants.{Nothing}
 use Rattle.desk_core.specs.Collected.{IsCollected}
-use Rattle.desk_core.specs.Progress.{CancelsAny, CanSendNext, GoesOn, HasCome, Stage, job_in, ready, stage}
-use Rattle.desk_core.specs.Cause.{cause_of_answer, cause_of_issue}
-use Rattle.desk_core.specs.Issued.{IssuesFor, RefusesIssue}
-use Rattle.desk_core.specs.Settling.{Explains, GivesAtMost, KeepsWhatIsKnown, KeepsKnown, SawStop, Serves, ServesOn, Settles, TellsCause}
 use Rattle.desk_core.proofs.Shared.Causes.{explains-kept, explains-refused, explains-released, saw-on, saw-refused, saw-released}
 use Rattle.desk_core.proofs.Known.{KeepsKnown-cancelled, KeepsKnown-filled, KeepsKnown-stays, stays-issued}
 use Rattle.desk_core.proofs.Out.{cancelled_out, filled_out, held_alone, issued_out, not_numbered}
@@ -37,9 +15,6 @@ use Rattle.desk_core.proofs.Shared.Given.{same_given, issued_given}
 
 SameDocument-on : (c d e : BookState) → SameDocument c d → SameDocument d e → SameDocument c e
 SameDocument-on c d e h k = record { table = cc; plan = cc; marks = cc; bookmarks = cc }
-
-pub SameDocument-same : (d : BookState) → SameDocument d d
-SameDocument-same d = record { table = refl; plan = refl; marks = refl; bookmarks = refl }
 
 -- a post of which nothing came: it is as it was but for what it was asked
 pub record Idles (p q : PostView) : Type 0 where

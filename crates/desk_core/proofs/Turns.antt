@@ -1,21 +1,9 @@
 -- How a turn brings a settling nearer to its end.
-use Rattle.std.proofs.Common.{◌≡◌, ◌⊎◌, ℕ, true, ◌+◌, ◌*◌, ◌<◌, ◌≤◌, ◌∙◌, sym, subst, inl, inr, arith, Option, None, Some, ControlFlow, Continue, Break}
-use Rattle.std.specs.Prelude.{IfSome, IsSome, List, length}
+use Rattle.desk_core.proofs.Names.{Advances, ArrivalRow, Asks, BookState, Break, CancelsAny, Cause, Continue, ControlFlow, Ends, Explains, Frees, GoesOn, HasCause, IfSome, IsAnyOut, IsAtHand, IsDone, IsDoneBy, IsEnding, IsSome, IsWhy, Job}
+use Rattle.desk_core.proofs.Names.{JobResult, List, Nears, None, Nothing, NothingOut, Option, PostView, Progress, Ready, RunsOut, SawStop, Some, Stage, TextRow, Unsent, Waiting, arith, empty_rows_of, expected, inl, inr, is_empty, job_in}
+use Rattle.desk_core.proofs.Names.{length, pending_of, rows_of, stage, subst, sym, true, turns_at, turns_for, turns_from, ℕ, ◌*◌, ◌+◌, ◌<◌, ◌∙◌, ◌≡◌, ◌≤◌, ◌⊎◌}
 use Rattle.std.proofs.lemmas.List.Sums.{count_by-le-length}
-use Rattle.revision_jobs.specs.declared.answer.Job.{Job}
-use Rattle.revision_jobs.specs.Answer.{JobResult}
-use Rattle.revision_jobs.specs.Posted.{PostView}
-use Rattle.dependency_book.specs.RowState.{is_empty}
-use Rattle.dependency_book.specs.Rows.{ArrivalRow, TextRow}
-use Rattle.dependency_book.specs.Jobs.{IsAnyOut}
-use Rattle.dependency_book.specs.BookState.{BookState, expected, pending_of, empty_rows_of, NothingOut}
-use Rattle.desk_core.specs.declared.cause.Cause.{Cause}
-use Rattle.desk_core.specs.declared.progress.Progress.{Progress}
 use Rattle.desk_core.specs.declared.settling.Settling.{Settling}
-use Rattle.desk_core.specs.declared.unsent.Unsent.{Unsent}
-use Rattle.desk_core.specs.declared.unsent.Unsent.TheVariants.{Nothing, Ready, Waiting}
-use Rattle.desk_core.specs.Progress.{Advances, Asks, CancelsAny, Frees, GoesOn, IsAtHand, IsDone, IsDoneBy, Nears, RunsOut, Stage, job_in, stage, turns_at, turns_for, turns_from}
-use Rattle.desk_core.specs.Settling.{Ends, Explains, HasCause, IsEnding, IsWhy, SawStop, rows_of}
 use Rattle.desk_core.proofs.Out.{held_out}
 
 pub nears_on : (s mid t : Stage) (next : ControlFlow Unit Unit) → turns_at mid ≤ turns_at s → Nears mid t next

@@ -1,22 +1,7 @@
 -- An edit that is felt nowhere leaves the patterns as they are.
-use Rattle.std.proofs.Common.{◌≡◌, ℕ, ◌≤◌, true, ◌&&◌, refl, sym, arith, ap, subst, Option, None, Some}
-use Rattle.std.specs.Prelude.{◌==◌}
-use Rattle.std.proofs.lemmas.Bool.{and_parts}
-use Rattle.worlds.specs.World.{World}
-use Rattle.worlds.specs.Lay.{lay}
-use Rattle.schedule.specs.declared.acts.Acts.{Acts}
-use Rattle.schedule.specs.Acts.{acts_on}
-use Rattle.schedule.specs.Alike.{LayAlikeWithin}
-use Rattle.schedule.specs.Asked.{Asked, SetCells, ReplaceStart, ReplaceRule, AddBookmark, MoveBookmark, RemoveBookmark, AddBranch, RemoveBranch}
-use Rattle.schedule.specs.Branches.{reach}
-use Rattle.schedule.specs.Change.{acting, changed}
-use Rattle.schedule.specs.Plan.{Plan}
-use Rattle.schedule.specs.Scratch.{arrival, after}
-use Rattle.schedule.specs.Sound.{IsSound}
-use Rattle.desk_events.specs.declared.mark.Mark.{Mark}
-use Rattle.desk_events.specs.declared.touched.Touched.{Touched}
-use Rattle.desk_events.specs.Felt.{IsUnfelt, IsUnfeltAt, IsUnfeltWhere, LayAlikeOn, UnfeltTouch, cells_of, touched_by}
-use Rattle.desk_events.specs.Marks.{mark_at}
+use Rattle.desk_events.proofs.Names.{Acts, AddBookmark, AddBranch, Asked, IsSound, IsUnfelt, IsUnfeltAt, IsUnfeltWhere, LayAlikeOn, LayAlikeWithin, Mark, MoveBookmark, None, Option, Plan, RemoveBookmark, RemoveBranch, ReplaceRule}
+use Rattle.desk_events.proofs.Names.{ReplaceStart, SetCells, Some, Touched, UnfeltTouch, World, acting, acts_on, after, and_parts, ap, arith, arrival, cells_of, changed, lay, mark_at, reach, refl, subst, sym, touched_by, true, ℕ, ◌&&◌}
+use Rattle.desk_events.proofs.Names.{◌==◌, ◌≡◌, ◌≤◌}
 use Rattle.desk_events.proofs.Shared.Gives.{Arrives}
 use Rattle.desk_events.proofs.Shared.Tests.{either_way, true_eq}
 use Rattle.desk_events.proofs.Shared.Touching.{SameUntouched, untouched}

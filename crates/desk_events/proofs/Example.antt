@@ -1,26 +1,14 @@
 -- The worked lists of events.
-use Rattle.std.proofs.Common.{◌≡◌, ℕ, ◌<◌, ◌∙◌, false, not, List, [], ◌∷◌, map, nat_le, nat_lt, refl, sym, ap, inr, arith, None, Some, Option}
-use Rattle.std.specs.Prelude.{◌==◌, ◌&&◌}
-use Rattle.std.specs.List.{list_all}
-use Rattle.std.proofs.lemmas.Bool.{and_right}
-use Rattle.worlds.specs.World.{Place, blank, entries-blank}
+use Rattle.desk_events.proofs.Names.{AddBookmark, Asked, CanEdit, CanIssue, CellStateTooHigh, Configuration, Entry, Happening, Happens, Insert, IsReached, List, Mark, Need, None, Option, Place, RemoveIntervention, ReplaceRule, SetCells}
+use Rattle.desk_events.proofs.Names.{Some, Step, View, [], all_set_below, and_right, ap, arith, blank, changed, collects, desk, echoes, edits, entries-blank, false, first_refusal, inr, is_mark, issues, list_all, map, mark_at, nat_le}
+use Rattle.desk_events.proofs.Names.{nat_lt, not, opened_among, opening, refl, refusal, spent, steps, sym, unless_refused, views, ℕ, ◌&&◌, ◌<◌, ◌==◌, ◌∙◌, ◌∷◌, ◌≡◌}
 use Rattle.worlds.specs.Live.{as_live, live, live-entries}
-use Rattle.schedule.specs.declared.fault.EditFault.TheVariants.{CellStateTooHigh}
 use Rattle.schedule.specs.declared.acts.Acts.TheVariants.{Once}
-use Rattle.schedule.specs.Asked.{Asked, AddBookmark, Insert, RemoveIntervention, ReplaceRule, SetCells}
-use Rattle.schedule.specs.Change.{all_set_below, changed, first_refusal, refusal, spent, unless_refused}
 use Rattle.schedule.specs.History.{is_felt}
-use Rattle.schedule.specs.Plan.{opening}
 use Rattle.schedule.specs.Repeats.{has_too_many_marks}
 use Rattle.bookmarks.specs.declared.view.View.TheVariants.{Counts}
-use Rattle.desk_events.specs.declared.mark.Mark.{Mark}
-use Rattle.desk_events.specs.declared.need.Need.{Need}
-use Rattle.desk_events.specs.declared.need.Need.TheVariants.{Step, View}
-use Rattle.desk_events.specs.Configuration.{Configuration, Happening, Happens, IsReached, desk, echoes, opened_among}
-use Rattle.desk_events.specs.Entry.{Entry, steps, views}
-use Rattle.desk_events.specs.Event.{CanEdit, CanIssue, after_edit as core_after_edit, collects, edits, issues}
+use Rattle.desk_events.specs.Event.{after_edit as core_after_edit}
 use Rattle.desk_events.specs.Example.{AnswerOfOld, KeptAnswer, LateAnswer, after, after_edit, arrived, counted, counts, marked, origin, rule_x, taken, whole_way, worked}
-use Rattle.desk_events.specs.Marks.{is_mark, mark_at}
 use Rattle.desk_events.proofs.Shared.Called.{collected_then, reached_then, split_at, worked_then}
 use Rattle.desk_events.proofs.Shared.Tests.{eq_false}
 

@@ -1,35 +1,12 @@
 -- What an edit leaves of a document's history.
-use Rattle.std.proofs.Common.{◌≡◌, ℕ, zero, suc, ◌+◌, ◌<◌, ◌≤◌, ◌∙◌, Bool, true, false, not, ◌&&◌, nat_lt, List, [], ◌∷◌, refl, sym, ap, ap₂, arith, Option, None, Some}
-use Rattle.std.specs.Prelude.{◌==◌}
-use Rattle.std.proofs.lemmas.Bool.Decides.{nat_tests}
-use Rattle.std.proofs.lemmas.Bool.{or_from}
-use Rattle.worlds.specs.Lay.{lay}
-use Rattle.rule_tree.specs.Rule.{name_of, states_of}
-use Rattle.bookmarks.specs.Text.{text_of}
-use Rattle.schedule.specs.declared.branch.Branch.{Branch}
-use Rattle.schedule.specs.declared.document.Bookmark.{Bookmark}
-use Rattle.schedule.specs.declared.document.Intervention.{Intervention}
-use Rattle.schedule.specs.declared.fault.EditFault.{EditFault}
-use Rattle.schedule.specs.declared.fault.EditFault.TheVariants.{BranchInUse, NoSuchBranch}
-use Rattle.schedule.specs.Plan.{Plan}
-use Rattle.schedule.specs.Asked.{Asked, SetCells, ReplaceStart, ReplaceRule, AddBookmark, MoveBookmark, RemoveBookmark, AddBranch, RemoveBranch}
-use Rattle.schedule.specs.Branches.{fork_of, has_bookmarks, has_branch, parent_of}
-use Rattle.schedule.specs.Change.{changed, first_refusal, is_in_use, refusal, spent}
+use Rattle.desk_events.proofs.Names.{AddBookmark, AddBranch, Asked, Bookmark, Bool, Branch, BranchInUse, EditFault, Intervention, IsPlaced, IsSound, IsSound-removed_branch, List, Mark, MoveBookmark, NoSuchBranch, None, Option, Plan}
+use Rattle.desk_events.proofs.Names.{RemoveBookmark, RemoveBranch, ReplaceRule, ReplaceStart, SetCells, Some, Touched, [], after, after-unfelt, ap, ap₂, arith, arrival, arrival-added, arrival-removed, arrival-unfelt, bookmark_in}
+use Rattle.desk_events.proofs.Names.{bookmark_mark, branch_id, cells_at, changed, false, felt_from, first_refusal, first_touched, fork_of, from_touched, has_bookmarks, has_branch, has_id, is_in_use, is_mark, is_start, keeps_arrival, lay}
+use Rattle.desk_events.proofs.Names.{leaves_after, mark_at, name_of, nat_lt, nat_tests, not, or_from, parent_of, parents_before, refl, refusal, scratch, spent, states_of, suc, sym, text_of, touched_by, true, unused, without, zero, ℕ, ◌&&◌}
+use Rattle.desk_events.proofs.Names.{◌+◌, ◌<◌, ◌==◌, ◌∙◌, ◌∷◌, ◌≡◌, ◌≤◌}
 use Rattle.schedule.specs.History.{is_felt}
-use Rattle.schedule.specs.Ids.{branch_id, has_id, without}
-use Rattle.schedule.specs.Scratch.{cells_at, arrival, after, scratch}
-use Rattle.schedule.specs.Sound.{IsPlaced, IsSound}
-use Rattle.schedule.proofs.Sounds.{IsSound-removed_branch}
 use Rattle.schedule.proofs.Shared.Arrivals.{ParentsComeBefore}
-use Rattle.schedule.proofs.Shared.Branches.{parents_before, unused}
 use Rattle.schedule.proofs.Shared.Felt.{felt-apart, felt-back, felt-here}
-use Rattle.schedule.proofs.Shared.Lines.{after-unfelt, arrival-added, arrival-removed, arrival-unfelt}
-use Rattle.desk_events.specs.declared.mark.Mark.{Mark}
-use Rattle.desk_events.specs.declared.touched.Touched.{Touched}
-use Rattle.desk_events.specs.Wanted.{bookmark_in}
-use Rattle.desk_events.specs.Felt.{felt_from, first_touched, from_touched, touched_by}
-use Rattle.desk_events.specs.Kept.{keeps_arrival, leaves_after}
-use Rattle.desk_events.specs.Marks.{bookmark_mark, is_mark, is_start, mark_at}
 use Rattle.desk_events.proofs.Shared.Marks.{mark_placed}
 use Rattle.desk_events.proofs.Shared.Tests.{clash, either_way, eq_true, false_eq, true_eq}
 use Rattle.desk_events.proofs.Shared.Touching.{SameUntouched, untouched, untouched_elsewhere}

@@ -2,3 +2,4 @@ pub mod Alike
 pub mod Example
 pub mod Leaves
 pub mod Shared
+pub mod Names

@@ -1,20 +1,13 @@
 -- What was heard of lines.
-use Rattle.std.proofs.Common.{◌≡◌, ℕ, ◌+◌, List, [], ◌∷◌, ◌++◌, Bool, true, false, sym, ap, refl, append_assoc, append-nil, arith, subst, ◌<◌, ◌≤◌, OnOk, Option, None, Some, Result, Ok, Err, IfOk, OnErr}
+use Rattle.desk_script.proofs.Names.{Between, Bool, BreaksOff, Broken, Ended, Err, Format, Hears, IfOk, InText, IsAtEnd, IsReadAs, LineTaken, List, NoEndAmong, None, Ok, OnErr, OnOk, Option, ReadsText, Refuse, Result, Some, Take, TextTaken}
+use Rattle.desk_script.proofs.Names.{[], ap, append-nil, append_assoc, arith, asked_by, command_of, false, format_of, is_passed_over, lines_until, raw_bytes, refl, subst, sym, true, ℕ, ◌++◌, ◌+◌, ◌<◌, ◌∷◌, ◌≡◌, ◌≤◌}
 use Rattle.script_lines.specs.Ahead.{Ahead}
 use Rattle.script_lines.proofs.Shared.Ahead.{takes_then}
 use Rattle.script_lines.proofs.Shared.Taking.{line_falls}
-use Rattle.text_lines.specs.Lines.{Ended, Broken, lines_until}
-use Rattle.script_lines.specs.ScriptLine.{raw_bytes, is_passed_over}
-use Rattle.script_lines.specs.Script.{LineTaken, TextTaken, NoEndAmong, ReadsText}
 use Rattle.script_lines.specs.declared.reader.TextFound.{TextFound}
 use Rattle.script_lines.specs.declared.reader.TextFound.TheVariants as found_text
 use Rattle.script_lines.specs.declared.kept_line.KeptLine.{KeptLine}
-use Rattle.std.specs.Io.KnownBytes.{IsAtEnd}
-use Rattle.desk_script.specs.Command.{command_of, format_of}
-use Rattle.desk_script.specs.Asks.{Take, Refuse, asked_by, Between, InText}
-use Rattle.desk_script.specs.Heard.{IsReadAs, Hears, BreaksOff}
 use Rattle.desk_script.specs.declared.fault.ScriptFault.TheVariants.{NoEnd}
-use Rattle.desk_script.specs.declared.format.Format.{Format}
 use Rattle.desk_script.specs.declared.request.Request.{Request}
 use Rattle.desk_script.specs.declared.request.Request.TheVariants as request
 use Rattle.desk_script.proofs.Shared.Asks.{asks-text, asks-open_text, asks-command, asks-text_command, follows-any}

@@ -1,16 +1,7 @@
 -- Which lines can be out of memory.
-use Rattle.std.proofs.Common.{◌≡◌, ℕ, ◌≤◌, ◌<◌, List, ◌∷◌, length, length-append, Bool, true, false, codes, ap, arith, Option, Some, None}
-use Rattle.std.specs.List.{join_with_byte}
-use Rattle.std.specs.Option.{option_map}
-use Rattle.std.specs.Str.{bytes_eq}
+use Rattle.desk_script.proofs.Names.{Bool, CanLackMemory, Command, Edit, Format, List, None, Option, Some, ap, arith, asked_by, bytes_eq, codes, command_by, command_of, command_of_words, false, format_of, format_of_words, join_with_byte}
+use Rattle.desk_script.proofs.Names.{length, length-append, looking_by, option_map, squashed, start_of, true, words, ℕ, ◌<◌, ◌∷◌, ◌≡◌, ◌≤◌}
 use Rattle.std.proofs.lemmas.Slice.Eq.{bytes_eq-Decides}
-use Rattle.script_lines.specs.Words.{words, squashed}
-use Rattle.schedule.specs.declared.edit.Edit.{Edit}
-use Rattle.desk_script.specs.Command.{command_of, command_of_words, command_by, looking_by, format_of, format_of_words, start_of}
-use Rattle.desk_script.specs.Asks.{asked_by}
-use Rattle.desk_script.specs.Heard.{CanLackMemory}
-use Rattle.desk_script.specs.declared.format.Format.{Format}
-use Rattle.desk_script.specs.declared.command.Command.{Command}
 use Rattle.desk_script.specs.declared.command.Command.TheVariants as command
 
 -- the commands whose words are fixed, and the formats

@@ -4,3 +4,4 @@ pub mod Hearing
 pub mod Pushed
 pub mod Listing
 pub mod Shared
+pub mod Names

@@ -1,9 +1,5 @@
 -- The lines of interventions.
-use Rattle.std.proofs.Common.{◌≡◌, ℕ, ◌++◌, length, append_assoc, codes, arith}
-use Rattle.std.specs.Prelude.{decimal}
-use Rattle.schedule.specs.declared.acts.Acts.TheVariants.{Once, Every}
-use Rattle.schedule.specs.declared.document.Intervention.{Intervention}
-use Rattle.desk_script.specs.Listed.{intervention_line}
+use Rattle.desk_script.proofs.Names.{Every, Intervention, Once, append_assoc, arith, codes, decimal, intervention_line, length, ℕ, ◌++◌, ◌≡◌}
 
 -- an intervention that acts once
 pub once-line : (i : Intervention) (generation n : ℕ) → i.acts ≡ Once generation → n ≡ length i.cells

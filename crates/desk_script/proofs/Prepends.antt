@@ -1,8 +1,5 @@
 -- Cells that stand before others.
-use Rattle.std.proofs.Common.{◌≡◌, List, [], ◌∷◌, ◌++◌, Option, Some, append_assoc, arith}
-use Rattle.std.specs.Option.{option_map}
-use Rattle.worlds.specs.declared.cell.CellSet.{CellSet}
-use Rattle.desk_script.specs.Command.{before}
+use Rattle.desk_script.proofs.Names.{CellSet, List, Option, Some, [], append_assoc, arith, before, option_map, ◌++◌, ◌∷◌, ◌≡◌}
 
 pub prepends_one : (xs : List CellSet) (c : CellSet) (o : Option (List CellSet))
     → option_map (λ more. xs ++ more) (before (Some c) o) ≡ option_map (λ more. (xs ++ c ∷ []) ++ more) o

@@ -1,18 +1,12 @@
 -- A text that grows by the texts of the elements of a list, one after the other.
-use Rattle.std.proofs.Common.{◌≡◌, ◌∙◌, ℕ, zero, suc, ◌+◌, ◌-◌, ◌<◌, List, [], ◌∷◌, ◌++◌, length, drop, get_or, ap, sym, append_assoc, arith, refl, append-nil, Option, codes, decimal}
-use Rattle.std.specs.Prelude.{flat_map}
-use Rattle.std.specs.List.{range_with_len}
+use Rattle.desk_script.proofs.Names.{Asked, Intervention, List, Option, [], add_all, add_bookmark, add_branch, add_intervention, ap, append-nil, append_assoc, arith, bookmark_id, branch_id, codes, decimal, drop, edit_line, edit_lines}
+use Rattle.desk_script.proofs.Names.{flat_map, get_or, ids_between, intervention_id, length, range_with_len, refl, rule_lines, script_text, skip_bookmark, skip_branch, skip_intervention, skip_lines, start_lines, suc, sym, zero, ℕ, ◌++◌}
+use Rattle.desk_script.proofs.Names.{◌+◌, ◌-◌, ◌<◌, ◌∙◌, ◌∷◌, ◌≡◌}
 use Rattle.std.proofs.lemmas.List.Concat.{flat_map-append}
 use Rattle.std.proofs.lemmas.Fmt.{decimal_digit}
 use Rattle.schedule.specs.declared.branch.Branch.{Branch}
 use Rattle.schedule.specs.declared.document.Bookmark.{Bookmark}
-use Rattle.schedule.specs.declared.document.Intervention.{Intervention}
-use Rattle.schedule.specs.Asked.{Asked}
-use Rattle.schedule.specs.Ids.{branch_id, bookmark_id, intervention_id}
 use Rattle.schedule.specs.Plan.{Plan}
-use Rattle.document_replay.specs.Replay.{add_all, ids_between}
-use Rattle.document_replay.specs.Replay.{add_branch, add_bookmark, add_intervention, skip_branch, skip_bookmark, skip_intervention}
-use Rattle.desk_script.specs.Scripted.{edit_line, edit_lines, rule_lines, script_text, skip_lines, start_lines}
 
 module _ {A : Type 0} (text : A → List ℕ) where
   -- what is there and the texts of those that are left are what it is to become

@@ -1,26 +1,17 @@
 -- What is out after jobs were dropped.
-use Rattle.std.proofs.Common.{◌≡◌, ◌≢◌, ℕ, ◌-◌, ◌^◌, ◌<◌, ◌≤◌, true, false, List, Option, None, Some, IfSome, IfNone, IsSome, ◌==◌, sym, ap, refl, subst, arith}
-use Rattle.std.proofs.lemmas.Bool.Decides.{nat_tests}
-use Rattle.schedule.specs.Asked.{Asked}
+use Rattle.desk_server.proofs.Names.{Asked, BookState, CarriesOn, Cause, DropsJobs, IfNone, IfSome, IsDoneWith, IsFirstOut, IsFresh, IsSome, JobResult, KeepsCauses, List, None, NothingOut, Option, PostMatchesDesk, PostView, SameBook, Some}
+use Rattle.desk_server.proofs.Names.{ap, arith, cancelled, expected, false, has_number, job_of, length, nat_tests, opened, pending_of, refl, row_of, state_map, subst, sym, true, ℕ, ◌-◌, ◌<◌, ◌==◌, ◌^◌, ◌≡◌, ◌≢◌, ◌≤◌}
 use Rattle.revision_jobs.specs.declared.entries.Entries.{Entries}
 use Rattle.revision_jobs.specs.declared.answer.Job.{Job}
-use Rattle.revision_jobs.specs.Answer.{JobResult}
 use Rattle.dependency_book.specs.declared.row.RowState.{RowState}
 use Rattle.desk_events.specs.declared.need.Need.{Need}
 use Rattle.desk_events.specs.declared.need.Need.TheVariants.{Step, View}
-use Rattle.dependency_book.specs.RowState.{job_of, has_number, state_map}
-use Rattle.dependency_book.specs.Jobs.{cancelled, IsFirstOut, SameBook}
 use Rattle.dependency_book.specs.Kept.{KeepsRows}
 use Rattle.desk_events.specs.declared.mark.Mark.{Mark}
 use Rattle.dependency_book.specs.Recalled.{Revises}
 use Rattle.desk_core.proofs.Shared.Recalled.{recalls_out}
 use Rattle.desk_events.specs.Marks.{mark_at}
-use Rattle.dependency_book.specs.BookState.{BookState, row_of, expected, opened, pending_of, NothingOut}
-use Rattle.desk_core.specs.declared.cause.Cause.{Cause}
-use Rattle.revision_jobs.specs.Posted.{PostView}
 use Rattle.desk_core.specs.Settling.{Explains, HoldsJobsOut, IsWhy, SawStop, ServesOn}
-use Rattle.desk_server.specs.Jobs.{PostMatchesDesk, CarriesOn, IsFresh, DropsJobs, IsDoneWith, KeepsCauses}
-use Rattle.std.proofs.Common.{length}
 use Rattle.desk_core.proofs.Shared.Given.{same_given}
 
 -- where nothing is dropped

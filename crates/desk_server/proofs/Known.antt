@@ -1,17 +1,9 @@
 -- What is known where nothing is pending.
-use Rattle.std.proofs.Common.{◌≡◌, ℕ, ◌+◌, List, [], ◌∷◌, map, subst, arith, cond, Bool, true, Option}
-use Rattle.std.specs.Prelude.{IsSome, count_by, not}
+use Rattle.desk_server.proofs.Names.{AllKnown, BookState, Bookmark, Bool, IsSome, List, Option, [], arith, cond, cond-true, count_by, is_known, is_pending, known, map, nat_tests, not, pending_of, shown_row, subst, true, ℕ, ◌+◌, ◌∷◌, ◌≡◌}
 use Rattle.std.specs.List.{AllByRecursion}
-use Rattle.std.proofs.lemmas.Bool.{cond-true}
-use Rattle.std.proofs.lemmas.Bool.Decides.{nat_tests}
 use Rattle.std.proofs.lemmas.List.Sums.{sum_by-cons}
-use Rattle.schedule.specs.declared.document.Bookmark.{Bookmark}
-use Rattle.dependency_book.specs.BookState.{BookState, is_pending, pending_of}
 use Rattle.dependency_book.specs.Right.{IsRightBook}
-use Rattle.dependency_book.specs.RowState.{known, is_known}
 use Rattle.dependency_book.specs.Rows.{TextRow, keys, state_at, bookmark_rank}
-use Rattle.dependency_book.specs.ShownRows.{shown_row}
-use Rattle.desk_server.specs.Told.{AllKnown}
 
 -- where no text of rows is pending, that of each of their bookmarks is found
 

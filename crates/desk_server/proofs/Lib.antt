@@ -5,3 +5,4 @@ pub mod Rounds
 pub mod Noted
 pub mod Known
 pub mod Lines
+pub mod Names

@@ -1,14 +1,9 @@
 -- The lines of `list`.
-use Rattle.std.proofs.Common.{◌≡◌, ℕ, List, [], ◌∷◌, ◌++◌, Option, map, length, refl, ap, append_assoc, codes, arith}
-use Rattle.std.specs.Prelude.{decimal, flat_map, is_some}
+use Rattle.desk_server.proofs.Names.{BookState, Bookmark, List, Option, [], ap, arith, bookmark_line, branch_line, codes, decimal, flat_map, has_text, intervention_line, is_some, lines_of, listed_text, map, refl, row_line, shown_row}
+use Rattle.desk_server.proofs.Names.{shown_rows, ℕ, ◌++◌, ◌∷◌, ◌≡◌}
 use Rattle.std.specs.Option.{option_map}
 use Rattle.schedule.specs.declared.document.Intervention.{Intervention}
-use Rattle.schedule.specs.declared.document.Bookmark.{Bookmark}
-use Rattle.dependency_book.specs.BookState.{BookState}
-use Rattle.dependency_book.specs.ShownRows.{shown_row, shown_rows}
 use Rattle.schedule.specs.declared.branch.Branch.{Branch}
-use Rattle.desk_script.specs.Listed.{bookmark_line, branch_line, intervention_line, lines_of, listed_text}
-use Rattle.desk_server.specs.Told.{has_text, row_line}
 
 -- a bookmark with its text, if it has one
 pub row-line : {T : Type 0} (b : Bookmark) (text : T → List ℕ) (o : Option T)

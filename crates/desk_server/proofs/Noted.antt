@@ -1,22 +1,8 @@
 -- What is noted of one part of a run after the other.
-use Rattle.std.proofs.Common.{◌≡◌, ◌∙◌, ℕ, List, [], ◌∷◌, ◌++◌, refl, sym, subst, arith, append-nil, true, false}
-use Rattle.revision_jobs.specs.Answer.{JobResult}
-use Rattle.revision_jobs.specs.Posted.{PostView}
-use Rattle.dependency_book.specs.BookState.{BookState}
+use Rattle.desk_server.proofs.Names.{After, Answered, Ask, AsksForAnswers, BookState, Command, Draws, Format, HasToCompute, IsReadAs, IsRefused, JobResult, List, Moment, NotesEach, Obey, PostView, PublishedOrCounted, Reply, Request}
+use Rattle.desk_server.proofs.Names.{ScriptFault, TellsPending, Text, WatchesNext, WatchesReply, [], append-nil, arith, ends, false, moment, refl, reply_text, subst, sym, true, ℕ, ◌++◌, ◌∙◌, ◌∷◌, ◌≡◌}
 use Rattle.desk_core.specs.Looks.{LooksOn}
-use Rattle.desk_script.specs.Asks.{Ask, Obey}
-use Rattle.desk_script.specs.Heard.{IsReadAs}
-use Rattle.desk_script.specs.declared.command.Command.{Command}
-use Rattle.desk_script.specs.declared.fault.ScriptFault.{ScriptFault}
-use Rattle.desk_script.specs.declared.format.Format.{Format}
-use Rattle.desk_script.specs.declared.request.Request.{Request}
 use Rattle.desk_script.specs.declared.request.Request.TheVariants as request
-use Rattle.desk_server.specs.Answer.{After}
-use Rattle.desk_server.specs.Script.{Answered}
-use Rattle.desk_server.specs.Told.{TellsPending, IsRefused, reply_text, ends}
-use Rattle.desk_server.specs.Watch.{HasToCompute, AsksForAnswers, Draws, WatchesReply, Moment, moment, PublishedOrCounted, NotesEach, WatchesNext}
-use Rattle.script_lines.specs.declared.text.Text.{Text}
-use Rattle.desk_server.specs.declared.reply.Reply.{Reply}
 
 -- what is left after a reply
 abbrev pub after_of : BookState → Reply → After

@@ -1,37 +1,16 @@
 -- What the desk's answers are by the definition of the replies.
-use Rattle.std.proofs.Common.{◌≡◌, ◌≢◌, ◌⊎◌, inl, inr, ℕ, List, Result, Err, ◌≤◌, Option, Some, None, IfNone, length, Bool, true, false, cond, not, ◌==◌, subst, arith}
-use Rattle.std.specs.Prelude.{IsSome}
-use Rattle.std.proofs.lemmas.Bool.{cond-true}
-use Rattle.std.proofs.lemmas.Bool.Decides.{nat_tests}
+use Rattle.desk_server.proofs.Names.{After, AnswersRequest, Ask, BookState, Bookmark, Bool, CanLackMemory, Cause, Command, Current, Err, Fault, Format, GivesAnswer, GivesAnswerBy, IfNone, IsReadAs, IsSome, KeepsTaken, KeepsText, List}
+use Rattle.desk_server.proofs.Names.{Memory, NoMemory, NoShortage, NoSuch, None, Option, Pending, Plan, PollsBy, PostView, Refuse, RepliesOrNoMemory, Reply, Request, Result, ScriptFault, Session, Some, Still, TakesText, Text, Unsettled}
+use Rattle.desk_server.proofs.Names.{answer, arith, cond, ends, false, inl, inr, kept_text, length, nat_tests, no_memory, not, of_edit, of_script, only, pending_of, pending_text, polled, refused, refused_text, reply_text, session, settled}
+use Rattle.desk_server.proofs.Names.{shown_text, subst, text_known, true, unless_fault, ℕ, ◌==◌, ◌≡◌, ◌≢◌, ◌≤◌, ◌⊎◌}
 use Rattle.script_lines.specs.Text.{IsText}
-use Rattle.schedule.specs.Plan.{Plan}
-use Rattle.schedule.specs.declared.fault.EditFault.TheVariants.{NoMemory}
-use Rattle.schedule.specs.declared.document.Bookmark.{Bookmark}
-use Rattle.dependency_book.specs.BookState.{BookState, text_known, pending_of}
 use Rattle.desk_events.specs.Wanted.{bookmark_in}
-use Rattle.desk_core.specs.declared.cause.Cause.{Cause}
 use Rattle.dependency_book.specs.Shown.{IsPending, Shows}
 use Rattle.dependency_book.specs.declared.shown.Shown.{Shown}
-use Rattle.dependency_book.specs.declared.shown.Shown.TheVariants.{Current, NoSuch}
 use Rattle.dependency_book.specs.declared.shown.Shown.TheVariants as shown
-use Rattle.desk_script.specs.Asks.{Ask, Refuse}
-use Rattle.desk_script.specs.Heard.{CanLackMemory, IsReadAs}
-use Rattle.desk_script.specs.declared.fault.ScriptFault.{ScriptFault}
-use Rattle.desk_script.specs.declared.format.Format.{Format}
-use Rattle.desk_script.specs.declared.command.Command.{Command}
-use Rattle.desk_script.specs.declared.request.Request.{Request}
 use Rattle.desk_script.specs.declared.request.Request.TheVariants as request
-use Rattle.desk_server.specs.Faults.{Fault, of_edit, of_script}
-use Rattle.desk_server.specs.Shortage.{NoShortage, Memory, Unsettled, Pending, Still}
-use Rattle.desk_server.specs.Answer.{After, Session, answer, refused, no_memory, only, unless_fault, settled, polled, rule_text_after}
 use Rattle.desk_server.proofs.Shared.RuleTexts.{rule-same}
 use Rattle.desk_server.specs.Answer.{shown as shown_by}
-use Rattle.desk_server.specs.Reply.{pending_text, refused_text}
-use Rattle.revision_jobs.specs.Posted.{PostView}
-use Rattle.desk_server.specs.Told.{PollsBy, reply_text, ends, shown_text}
-use Rattle.desk_server.specs.Served.{GivesAnswer, GivesAnswerBy, RepliesOrNoMemory, KeepsTaken, KeepsText, AnswersRequest, TakesText, kept_text, session}
-use Rattle.script_lines.specs.declared.text.Text.{Text}
-use Rattle.desk_server.specs.declared.reply.Reply.{Reply}
 use Rattle.desk_server.specs.declared.reply.Reply.TheVariants as reply
 
 -- a reply that changes nothing

@@ -1,33 +1,18 @@
 -- One command after another.
-use Rattle.std.proofs.Common.{◌≡◌, ◌≢◌, ℕ, List, [], ◌∷◌, ◌++◌, Bool, true, false, cond, sym, ◌∙◌, ap, refl, append_assoc, append-nil, subst, Option, Some, None, IfSome, inr, arith}
-use Rattle.std.specs.Prelude.{zip}
+use Rattle.desk_server.proofs.Names.{After, AllCausedOver, Answered, Answers, AnswersAll, AnswersFront, AnswersRequest, AnswersWhole, Appends, AppendsFront, Ask, AsksIfAny, Between, BookState, Bool, BreaksOff, Completes, Consumes, Finishes}
+use Rattle.desk_server.proofs.Names.{GivesAnswer, Hears, IfSome, IsAtEnd, IsCaused, KeepsText, List, Moment, None, NotesEach, NotesFront, NotesReplies, NotesScript, Option, PostView, Reply, Request, Served, Session, Shortage, Some}
+use Rattle.desk_server.proofs.Names.{StopsTelling, WatchesNext, WatchesReply, Works, [], afters, answer, answered, answered_with, ap, append-nil, append_assoc, arith, asks, but_bye, cond, ends, false, first_shortage, front_first}
+use Rattle.desk_server.proofs.Names.{front_then, inr, later_shortages, moment, opening, opening_session, refl, replies_to, replies_with, reply_text, rule_text_after, session, session_after, subst, sym, texts_of, told_to, true, unless_bye}
+use Rattle.desk_server.proofs.Names.{zip, ℕ, ◌++◌, ◌∙◌, ◌∷◌, ◌≡◌, ◌≢◌}
 use Rattle.basics.proofs.Shared.Lists.{all_append}
 use Rattle.std.proofs.lemmas.List.Concat.{flat_map-append}
 use Rattle.std.proofs.KnownBytes.{Appends-nil, Appends-trans, Consumes-nil}
 use Rattle.script_lines.specs.Ahead.{Ahead, TakesBytes, LineReading}
 use Rattle.script_lines.specs.Counted.{CountedWriting}
 use Rattle.script_lines.proofs.Shared.Ahead.{takes_none, takes_then}
-use Rattle.std.specs.Io.KnownBytes.{Consumes, Appends, IsAtEnd}
 use Rattle.text_lines.specs.Lines.{End, Ended, Broken, lines_until}
-use Rattle.script_lines.specs.Faults.{AppendsFront}
 use Rattle.script_lines.specs.Script.{MayFollow}
-use Rattle.script_lines.proofs.Shared.Told.{front_first, front_then}
-use Rattle.schedule.specs.Plan.{opening}
-use Rattle.dependency_book.specs.BookState.{BookState}
-use Rattle.desk_script.specs.Asks.{Ask, asks, Between}
-use Rattle.desk_script.specs.Heard.{AsksIfAny, Hears, BreaksOff}
-use Rattle.desk_script.specs.declared.request.Request.{Request}
 use Rattle.desk_script.proofs.Shared.Asks.{follows-any}
-use Rattle.desk_server.specs.Shortage.{Shortage, IsCaused, AllCausedOver}
-use Rattle.desk_server.specs.Answer.{Session, opening_session, rule_text_after, session_after, After, answer}
-use Rattle.revision_jobs.specs.Posted.{PostView}
-use Rattle.desk_server.specs.Script.{Answered, afters, answered, answered_with, first_shortage, later_shortages, unless_bye, but_bye, texts_of, told_to, replies_to, replies_with}
-use Rattle.desk_server.specs.Told.{reply_text, ends}
-use Rattle.desk_server.specs.Served.{KeepsText, session, GivesAnswer, AnswersRequest, Served}
-use Rattle.desk_server.specs.Run.{Answers, Finishes, StopsTelling, AnswersWhole, AnswersAll, AnswersFront}
-use Rattle.desk_server.specs.Ending.{Works, Completes}
-use Rattle.desk_server.specs.Watch.{Moment, moment, NotesFront, NotesEach, NotesScript, NotesReplies, WatchesNext, WatchesReply}
-use Rattle.desk_server.specs.declared.reply.Reply.{Reply}
 use Rattle.desk_server.specs.declared.reply.Reply.TheVariants as reply
 use Rattle.desk_server.proofs.Noted.{after_of, unwatched_next}
 

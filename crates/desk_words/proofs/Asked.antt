@@ -1,27 +1,12 @@
 -- What is read where the words are choices.
-use Rattle.std.proofs.Common.{◌≡◌, ◌≢◌, ◌⊎◌, ◌∙◌, ◌++◌, ◌∷◌, ap, ℕ, Bool, true, false, List, [], Option, Some, None, Result, Ok, Err, IfOk, refl, sym, subst, inl, inr, arith, codes}
-use Rattle.std.specs.Prelude.{All, MatchResult, fold, if◌then◌else◌}
-use Rattle.std.specs.List.{slice_index_or}
-use Rattle.std.specs.Str.{bytes_eq}
-use Rattle.std.specs.Str.Parse.{digits_value, without_leading_plus}
-use Rattle.std.proofs.lemmas.Bool.{cases_Bool}
-use Rattle.std.proofs.lemmas.List.Elements.{All-tail}
-use Rattle.std.proofs.lemmas.Slice.Eq.{bytes_eq-Decides}
+use Rattle.desk_words.proofs.Names.{All-tail, AreOnce, AsksWith, Bool, Choice, Chooses, ChoosesFor, DefaultValue, Err, Error, Facts, FailsBy, HasKind, IfOk, IsInOrder, List, MatchResult, None, Ok, Option, OutOfMemory, Result, Row, Rule}
+use Rattle.desk_words.proofs.Names.{Says, Setting, Some, Squares, Text, Walk, Workers, [], all_words, ap, arith, bytes_eq, bytes_eq-Decides, cases_Bool, chosen_by, codes, default_fault, desk, digits_value, false, faults, filled, finished}
+use Rattle.desk_words.proofs.Names.{fold, has_row, help_rule, if◌then◌else◌, inl, inr, kind_of, matches_of, more_values, name_of, numbered, one_of, option_of, progress, progress_name, progress_text, reading_by, refl, row_text, settled_rows}
+use Rattle.desk_words.proofs.Names.{slice_index_or, subst, sym, true, usual_of, walked, with_choice, with_default, with_index, with_number, without_leading_plus, ℕ, ◌++◌, ◌∙◌, ◌∷◌, ◌≡◌, ◌≢◌, ◌⊎◌}
+use Rattle.std.specs.Prelude.{All}
 use Rattle.clap.proofs.OnLiterals.{clap_on_literals}
-use Rattle.clap.specs.Faults.{default_fault, defaults_fault, walk_fault}
-use Rattle.clap.specs.Kinds.{FailsBy, HasKind}
-use Rattle.clap.specs.Values.{kind_of}
-use Rattle.clap.specs.Simple.{filled, help_rule, matches_of, with_index}
-use Rattle.clap.specs.Walk.{Row, Rule, Text, Walk, finished, has_row, more_values, one_of, reading_by, row_text, settled_rows, walked, with_default}
-use Rattle.clap.specs.declared.error.Error.{Error}
-use Rattle.clap.specs.declared.error.kind.ErrorKind.TheVariants.{OutOfMemory}
-use Rattle.clap.specs.declared.parser.matches.ValueSource.TheVariants.{DefaultValue}
+use Rattle.clap.specs.Faults.{defaults_fault, walk_fault}
 use Rattle.desk_words.specs.declared.settings.Options.{Options}
-use Rattle.desk_words.specs.declared.settings.Setting.{Setting}
-use Rattle.desk_words.specs.declared.settings.Setting.TheVariants.{Workers, Facts, Squares}
-use Rattle.desk_words.specs.Command.{Chooses, ChoosesFor, Says, desk, faults, name_of, progress_name, progress_text, usual_of}
-use Rattle.desk_words.specs.Words.{AreOnce, AsksWith, Choice, IsInOrder, all_words, chosen_by, option_of, with_choice, with_number}
-use Rattle.desk_words.specs.Words.Choice.{numbered, progress}
 use Rattle.desk_words.proofs.Requests.{only_memory}
 use Rattle.desk_words.proofs.Rows.{has_other, has_this, put_behind, text_other, text_this}
 use Rattle.desk_words.proofs.Walked.{Pending, Stands, between, choice_leads, no_plus, progress_in, row_for, rule_for, rules, shape, text_for}

@@ -1,13 +1,8 @@
 -- The numbers that the words choose.
-use Rattle.std.proofs.Common.{◌≡◌, ◌∙◌, ℕ, ap, sym, subst, refl, Bool, List, Result, Ok, Err, true, IfOk}
-use Rattle.clap.specs.Words.{App, HasMatchesOf, IsParsedFrom, Text, app_of, found_of, is_simple, matches_of, one_of, one_text, rows_of}
+use Rattle.desk_words.proofs.Names.{AlwaysGives, App, ArgMatches, Bool, ChoosesFor, Command, Err, Error, Found, GivesSettings, HasMatchesOf, IfOk, IsNumberIn, IsParsedFrom, List, Ok, Result, Says, Setting, ap, app_of, desk, found_of}
+use Rattle.desk_words.proofs.Names.{is_simple, name_of, progress_name, progress_text, refl, rows_of, subst, sym, true, ℕ, ◌∙◌, ◌≡◌}
+use Rattle.clap.specs.Words.{Text, matches_of, one_of, one_text}
 use Rattle.clap.proofs.WalkLemmas.{one_text-rows}
-use Rattle.clap.specs.declared.builder.command.Command.{Command}
-use Rattle.clap.specs.declared.error.Error.{Error}
-use Rattle.clap.specs.declared.parser.matches.ArgMatches.{ArgMatches}
-use Rattle.clap.specs.declared.parser.matches.Found.{Found}
-use Rattle.desk_words.specs.declared.settings.Setting.{Setting}
-use Rattle.desk_words.specs.Command.{AlwaysGives, ChoosesFor, GivesSettings, IsNumberIn, Says, desk, name_of, progress_name, progress_text}
 
 desk_is_simple : is_simple desk ≡ true
 desk_is_simple = refl

@@ -1,25 +1,13 @@
 -- What is read, after a parse, of an argument that has a default.
-use Rattle.std.proofs.Common.{◌≡◌, ◌∙◌, ◌<◌, ◌≤◌, ◌∷◌, ap, ℕ, zero, suc, true, false, List, [], length, is_some, Option, Some, None, refl, sym, subst, arith}
-use Rattle.std.specs.List.{All, slice_index_or}
-use Rattle.std.specs.Str.{bytes_eq}
-use Rattle.std.specs.Prelude.{find, option_map, slice_get}
+use Rattle.desk_words.proofs.Names.{Accepts, All, All-get_or, AllowsNone, Arg, ArgMatches, Command, Entry, EntryPasses, EntryValuesPass, Found, HasReading, IsAuto, IsCountArg, IsFilledEntry, IsGroupEntry, IsPlain, List, None, Option}
+use Rattle.desk_words.proofs.Names.{PassesArg, ReadsByParser, SameRules, Set, Some, ValuesPass, WantsDefault, [], ap, args_of, arith, bytes_eq, bytes_eq-Decides, default_present, entry_by_id, false, find, groups_of, is_some, least_values}
+use Rattle.desk_words.proofs.Names.{length, matched_of, one_text, option_map, out-Command, parser_of, parser_of_value, read_as, reading_of, refl, same_rules_by_id, slice_get, slice_index_or, subst, suc, sym, true, zero, ℕ, ◌<◌, ◌∙◌, ◌∷◌}
+use Rattle.desk_words.proofs.Names.{◌≡◌, ◌≤◌}
 use Rattle.std.specs.Borrow.{Bor}
-use Rattle.std.proofs.lemmas.Slice.Eq.{bytes_eq-Decides}
-use Rattle.std.proofs.lemmas.List.Elements.{All-get_or}
-use Rattle.clap.specs.Facts.{args_of, groups_of, AllowsNone, Entry, EntryPasses, EntryValuesPass}
-use Rattle.clap.specs.Facts.{HasReading, IsCountArg, IsFilledEntry, IsGroupEntry, PassesArg, ReadsByParser, ValuesPass, WantsDefault, least_values, parser_of, parser_of_value}
-use Rattle.clap.specs.Built.{IsAuto, IsParsedFrom, IsPlain, SameRules}
-use Rattle.clap.specs.Matches.{found_of, matched_of, one_text}
-use Rattle.clap.specs.Values.{Accepts, read_as, reading_of}
-use Rattle.clap.proofs.CallerLemmas.{default_present, entry_by_id, same_rules_by_id}
-use Rattle.clap.specs.declared.builder.action.ArgAction.TheVariants.{Set}
-use Rattle.clap.specs.declared.builder.arg.Arg.{Arg}
-use Rattle.clap.specs.declared.builder.command.Command.{Command}
-use Rattle.clap.specs.declared.builder.command.Command.TheViews.{out-Command}
+use Rattle.clap.specs.Built.{IsParsedFrom}
+use Rattle.clap.specs.Matches.{found_of}
 use Rattle.clap.specs.declared.builder.value_parser.Reading.{Reading}
 use Rattle.clap.specs.declared.builder.value_parser.ValueParser.{ValueParser}
-use Rattle.clap.specs.declared.parser.matches.ArgMatches.{ArgMatches}
-use Rattle.clap.specs.declared.parser.matches.Found.{Found}
 use Rattle.clap.specs.declared.parser.matches.MatchedArg.{MatchedArg}
 
 -- an id that some entry has is found

@@ -5,3 +5,4 @@ pub mod Requests
 pub mod Rows
 pub mod Walked
 pub mod Asked
+pub mod Names

@@ -1,22 +1,9 @@
 -- Whatever the command parses, each setting has a number.
-use Rattle.std.proofs.Common.{◌≡◌, ◌∙◌, ◌<◌, ◌≤◌, ◌∷◌, ap, codes, ℕ, zero, suc, true, false, List, [], length, Some, None, sym, subst, arith, slice_index}
-use Rattle.std.specs.List.{All, slice_index_or}
-use Rattle.std.specs.Str.{bytes_eq}
-use Rattle.std.proofs.lemmas.List.Elements.{All-nil}
-use Rattle.clap.specs.Facts.{args_of, groups_of, WantsDefault, least_values}
-use Rattle.clap.specs.Built.{AddsArg, IsAuto, IsPlain, IsPlainArg, SameRules}
-use Rattle.clap.specs.Matches.{found_of, one_text}
-use Rattle.clap.proofs.CallerLemmas.{added_plain}
-use Rattle.clap.specs.declared.builder.action.ArgAction.TheVariants.{Set}
-use Rattle.clap.specs.declared.builder.arg.Arg.{Arg}
-use Rattle.clap.specs.declared.builder.command.Command.{Command}
-use Rattle.clap.specs.declared.builder.command.Command.TheViews.{out-Command}
-use Rattle.clap.specs.declared.builder.value_parser.ValueParser.TheVariants.{Unsigned}
-use Rattle.clap.specs.Walk.{Rule, Text, rule_of}
-use Rattle.clap.specs.Simple.{App, app_of, with_rule}
-use Rattle.desk_words.specs.declared.settings.Setting.{Setting}
-use Rattle.desk_words.specs.declared.settings.Setting.TheVariants.{Workers, Facts, Squares}
-use Rattle.desk_words.specs.Command.{AlwaysGives, IsOptionOf, IsProgress, desk, least_of, most_of, name_of, nameless_app, progress_name, progress_rule, setting_rule}
+use Rattle.desk_words.proofs.Names.{AddsArg, All, All-nil, AlwaysGives, Arg, Command, Facts, IsAuto, IsOptionOf, IsPlain, IsPlainArg, IsProgress, List, None, Rule, SameRules, Set, Setting, Some, Squares, Text, Unsigned, WantsDefault}
+use Rattle.desk_words.proofs.Names.{Workers, [], added_plain, ap, args_of, arith, bytes_eq, codes, desk, false, groups_of, least_of, least_values, length, most_of, name_of, nameless_app, one_text, out-Command, progress_name, progress_rule}
+use Rattle.desk_words.proofs.Names.{rule_of, setting_rule, slice_index, slice_index_or, subst, suc, sym, true, with_rule, zero, ℕ, ◌<◌, ◌∙◌, ◌∷◌, ◌≡◌, ◌≤◌}
+use Rattle.clap.specs.Matches.{found_of}
+use Rattle.clap.specs.Simple.{App, app_of}
 use Rattle.desk_words.proofs.Defaults.{default_read}
 
 -- what a command knows of the argument of a setting

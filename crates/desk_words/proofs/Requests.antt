@@ -1,13 +1,9 @@
 -- What is read where the first word is no option, or is one word for help.
-use Rattle.std.proofs.Common.{◌≡◌, ◌≢◌, ◌==◌, false, ℕ, refl, arith, List, [], ◌∷◌, None, Result, IsErrAnd, codes}
+use Rattle.desk_words.proofs.Names.{AsksForHelp, BeginsPlain, DisplayHelp, Error, IsErrAnd, IsHelpOrMemory, IsUnknownOrMemory, List, None, OutOfMemory, Result, UnknownArgument, [], arith, codes, false, faults, refl, ℕ, ◌==◌, ◌∷◌, ◌≡◌, ◌≢◌}
 use Rattle.std.proofs.lemmas.Bool.Decides.{nat_tests}
 use Rattle.clap.specs.Lexer.{strip_byte}
 use Rattle.clap.specs.Words.{FailsBy, HasKind, Text, kind_of}
-use Rattle.clap.specs.declared.error.Error.{Error}
-use Rattle.clap.specs.declared.error.kind.ErrorKind.TheVariants.{DisplayHelp, OutOfMemory, UnknownArgument}
 use Rattle.clap.proofs.OnLiterals.{clap_on_literals}
-use Rattle.desk_words.specs.Words.{AsksForHelp, BeginsPlain}
-use Rattle.desk_words.specs.Command.{IsHelpOrMemory, IsUnknownOrMemory, faults}
 
 pub differs : (b c : ℕ) → b ≢ c → (b == c) ≡ false
 differs b c other = grind (arith, nat_tests)

@@ -1,7 +1,5 @@
 -- Rows of matches, of which none has an id that another has.
-use Rattle.std.proofs.Common.{◌≡◌, ◌++◌, ◌∷◌, true, false, List, [], refl, arith}
-use Rattle.std.specs.Str.{bytes_eq}
-use Rattle.clap.specs.Walk.{Row, Text, at_row, has_row, one_of, row_text}
+use Rattle.desk_words.proofs.Names.{List, Row, Text, [], arith, at_row, bytes_eq, false, has_row, one_of, refl, row_text, true, ◌++◌, ◌∷◌, ◌≡◌}
 
 -- a row whose id no row has stands behind the others
 pub put_behind : (id : Text) (change : Row → List Row) (missing : List Row) (rows : List Row) → has_row id rows ≡ false → at_row id change missing rows ≡ rows ++ missing

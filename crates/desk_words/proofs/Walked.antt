@@ -1,24 +1,12 @@
 -- The walk of a parse over the words of choices.
-use Rattle.std.proofs.Common.{◌≡◌, ◌∙◌, ◌==◌, ◌++◌, ◌∷◌, ◌<◌, ◌≤◌, ◌^◌, ap, ℕ, Bool, true, false, List, [], Option, Some, None, refl, arith, codes}
-use Rattle.std.specs.Prelude.{fold, if◌then◌else◌}
-use Rattle.std.proofs.Common.{append-nil, cond, drop}
-use Rattle.std.proofs.lemmas.Bool.{ne_eqb}
-use Rattle.std.specs.Str.Parse.{IsNumeral, digits_value, without_leading_plus}
+use Rattle.desk_words.proofs.Names.{Bool, Choice, CommandLine, Held, IsInOrder, IsNumeral, List, None, Option, Row, Rule, Setting, Shape, Some, Text, Unsigned, Walk, [], ap, append-nil, arith, built, codes, cond, desk, digits_value, drop}
+use Rattle.desk_words.proofs.Names.{false, filled, fold, has_row, if◌then◌else◌, least_of, more_values, most_of, name_of, ne_eqb, numbered, option_of, progress, progress_name, progress_rule, reading_by, refl, refused_kind, setting_rule}
+use Rattle.desk_words.proofs.Names.{settle_fault, settled_rows, true, turn_fault, use_fault, used, value_kinds, walked, with_index, with_values, without, without_leading_plus, words_of, ℕ, ◌++◌, ◌<◌, ◌==◌, ◌^◌, ◌∙◌, ◌∷◌, ◌≡◌, ◌≤◌}
 use Rattle.std.proofs.lemmas.Str.Parse.{digit_from_value}
-use Rattle.clap.specs.Values.{refused_kind}
 use Rattle.clap.proofs.ValueTestLemmas.{Accepts-accepts}
-use Rattle.clap.specs.declared.parser.matches.ValueSource.TheVariants.{CommandLine}
-use Rattle.clap.specs.Faults.{settle_fault, turn_fault, use_fault, walk_fault}
-use Rattle.clap.specs.Kinds.{value_kinds}
-use Rattle.clap.specs.Simple.{Shape, built, filled, with_index}
-use Rattle.clap.specs.Walk.{Held, Row, Rule, Text, Walk, has_row, more_values, reading_by, settled_rows, used, walked, with_values, without}
+use Rattle.clap.specs.Faults.{walk_fault}
 use Rattle.clap.specs.Walk.Waiting.{idle, option}
-use Rattle.clap.specs.declared.builder.value_parser.ValueParser.TheVariants.{Unsigned}
 use Rattle.clap.proofs.OnLiterals.{clap_on_literals}
-use Rattle.desk_words.specs.declared.settings.Setting.{Setting}
-use Rattle.desk_words.specs.Command.{desk, least_of, most_of, name_of, progress_name, progress_rule, setting_rule}
-use Rattle.desk_words.specs.Words.{Choice, IsInOrder, option_of, words_of}
-use Rattle.desk_words.specs.Words.Choice.{numbered, progress}
 use Rattle.desk_words.proofs.Rows.{put_behind}
 
 -- the command as it is built, and its options

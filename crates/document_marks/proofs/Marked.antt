@@ -1,40 +1,21 @@
 -- The marks of a document but the start as a list.
-use Rattle.std.proofs.Common.{◌≡◌, ℕ, ◌+◌, ◌*◌, ◌<◌, ◌≤◌, ◌^◌, ◌∙◌, ◌++◌, Bool, true, false, not, nat_le, List, [], ◌∷◌, Less, length, map, get_or, refl, sym, ap, ap₂, arith}
-use Rattle.std.specs.Prelude.{◌==◌, ◌&&◌, ◌||◌, flat_map}
-use Rattle.std.specs.List.{All, list_any, dedup, dedup_from}
-use Rattle.std.specs.List.Sorted.{IsPermutation, IsSortedByKey, IsStrictlySortedBy}
+use Rattle.document_marks.proofs.Names.{All, All-weaker, AreMarksOf, Bool, IdsRise, Intervention, IsPermutation, IsSortedByKey, IsSound, Less, List, Mark, Plan, [], acting_marks, acts_on, all_so, ap, ap₂, arith, bookmark_mark, branch_marks}
+use Rattle.document_marks.proofs.Names.{but_start, dedup, dedup_from, either_way, false, filter_passes, flat_map, forks_at, generations_to, get_or, is_mark, is_same, is_start, length, length-append, length-filter_le, length-map, list_any}
+use Rattle.document_marks.proofs.Names.{list_any-append, list_any_at, map, mark_at, mark_rank, marks_at_most, marks_to, marks_within, nat_le, nat_tests, not, not-true, reach, recursion_from_All, refl, stands_at, sum_by-cons, sym, true}
+use Rattle.document_marks.proofs.Names.{true_eq, ℕ, ◌&&◌, ◌*◌, ◌++◌, ◌+◌, ◌<◌, ◌==◌, ◌^◌, ◌||◌, ◌∙◌, ◌∷◌, ◌≡◌, ◌≤◌}
+use Rattle.std.specs.List.Sorted.{IsStrictlySortedBy}
 use Rattle.std.specs.Ordering.{is_eq, nat_cmp, on}
 use Rattle.std.proofs.Math.Bool.{and-false, and_comm, and-or_distrib_right, or_assoc, or_self_left}
-use Rattle.std.proofs.lemmas.Bool.{not-true}
-use Rattle.std.proofs.lemmas.Bool.Decides.{nat_tests}
 use Rattle.std.proofs.lemmas.Cmp.{nat_cmp_total, on_total, ranked}
-use Rattle.std.proofs.lemmas.List.{length-append, length-map}
-use Rattle.std.proofs.lemmas.List.Elements.{All-weaker, filter_passes, recursion_from_All}
 use Rattle.std.proofs.lemmas.List.Filters.{All-dedup}
-use Rattle.std.proofs.lemmas.List.Folds.{list_any-append, list_any_at}
 use Rattle.std.proofs.lemmas.List.Kept.{IsStrictlySortedBy-dedup}
 use Rattle.std.proofs.lemmas.List.Sorted.{All-permutation, length_permutation, list_any-IsPermutation}
-use Rattle.std.proofs.lemmas.List.Sums.{sum_by-cons}
 use Rattle.std.proofs.lemmas.Map.Views.{any-filter_same}
-use Rattle.basics.proofs.Shared.Lists.{all_so}
 use Rattle.schedule.specs.declared.branch.Branch.{Branch}
 use Rattle.schedule.specs.declared.document.Bookmark.{Bookmark}
-use Rattle.schedule.specs.declared.document.Intervention.{Intervention}
-use Rattle.schedule.specs.Acts.{acts_on, generations_to, marks_to}
-use Rattle.schedule.specs.Branches.{reach}
-use Rattle.schedule.specs.Ids.{IdsRise}
-use Rattle.schedule.specs.Plan.{Plan}
-use Rattle.schedule.specs.Repeats.{marks_within}
 use Rattle.schedule.specs.Scratch.{acts_at}
-use Rattle.schedule.specs.Sound.{IsSound}
 use Rattle.schedule.proofs.Shared.Acts.{any-generations, few-generations}
-use Rattle.schedule.proofs.Shared.Ids.{length-filter_le}
-use Rattle.document_marks.specs.AllMarks.{AreMarksOf, but_start, mark_rank}
-use Rattle.document_marks.specs.MostMarks.{marks_at_most}
-use Rattle.desk_events.specs.declared.mark.Mark.{Mark}
-use Rattle.desk_events.specs.Marks.{acting_marks, bookmark_mark, branch_marks, forks_at, is_mark, is_same, is_start, mark_at, stands_at}
 use Rattle.desk_events.proofs.Shared.Marks.{mark_near, same_mark}
-use Rattle.desk_events.proofs.Shared.Tests.{either_way, true_eq}
 use Rattle.document_marks.proofs.Shared.Ranks.{has_mark, same_true}
 
 -- the marks that are gathered: the ends of branches, those of bookmarks and those of interventions

@@ -1,21 +1,9 @@
 -- The edits that add the bookmarks of a document, or skip ids, aren't refused.
-use Rattle.std.proofs.Common.{◌≡◌, ℕ, ◌+◌, ◌<◌, ◌≤◌, ◌^◌, List, [], ◌∷◌, ◌++◌, refl, sym, ap, ap₂, arith, None}
-use Rattle.std.specs.List.{AllByRecursion}
-use Rattle.std.proofs.lemmas.Bool.Decides.{nat_tests}
-use Rattle.basics.proofs.Shared.Lists.{all_so}
+use Rattle.document_replay.proofs.Names.{AddBookmark, AllByRecursion, Bookmark, IsPlaced, IsSound, Lead, List, None, Plan, RemoveBookmark, [], add_bookmark, all_so, ap, ap₂, arith, bookmark_id, branch_id, changed_bookmarks, fork_of-zero}
+use Rattle.document_replay.proofs.Names.{last_id, nat_tests, next_bookmark, refl, refusal, repeat_marks, skip_bookmark, sym, ℕ, ◌++◌, ◌+◌, ◌<◌, ◌^◌, ◌∷◌, ◌≡◌, ◌≤◌}
 use Rattle.bookmarks.specs.declared.view.View.{View}
 use Rattle.bookmarks.specs.declared.view.View.TheVariants.{Counts}
 use Rattle.bookmarks.specs.Within.{KeepsViewLimits}
-use Rattle.schedule.specs.declared.document.Bookmark.{Bookmark}
-use Rattle.schedule.specs.Asked.{AddBookmark, RemoveBookmark}
-use Rattle.schedule.specs.Change.{changed_bookmarks, next_bookmark, refusal}
-use Rattle.schedule.specs.Ids.{bookmark_id, branch_id}
-use Rattle.schedule.specs.Plan.{Plan}
-use Rattle.schedule.specs.Repeats.{repeat_marks}
-use Rattle.schedule.specs.Sound.{IsPlaced, IsSound}
-use Rattle.schedule.proofs.Shared.Branches.{fork_of-zero}
-use Rattle.document_replay.specs.Law.{Lead, last_id}
-use Rattle.document_replay.specs.Replay.{add_bookmark, skip_bookmark}
 use Rattle.document_replay.proofs.Branches.{few_marks, with_branches}
 use Rattle.document_replay.proofs.Elements.{at_cut, fewer_before, there_last, without_last}
 use Rattle.document_replay.proofs.Shared.Leading.{Adds}

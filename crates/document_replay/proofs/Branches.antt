@@ -1,20 +1,8 @@
 -- The edits that add the branches of a document, or skip ids, aren't refused.
-use Rattle.std.proofs.Common.{◌≡◌, ℕ, ◌+◌, ◌<◌, ◌≤◌, ◌^◌, false, List, [], ◌∷◌, ◌++◌, length, refl, sym, ap, ap₂, subst, arith, None, true}
-use Rattle.std.specs.Prelude.{◌==◌}
-use Rattle.std.specs.List.{AllByRecursion}
-use Rattle.std.proofs.lemmas.Bool.Decides.{nat_tests}
-use Rattle.basics.proofs.Shared.Lists.{all_append, all_so}
-use Rattle.schedule.specs.declared.branch.Branch.{Branch}
-use Rattle.schedule.specs.Asked.{AddBranch, RemoveBranch}
-use Rattle.schedule.specs.Branches.{fork_of, has_branch, has_children}
-use Rattle.schedule.specs.Change.{is_in_use, next_branch, refusal, with_branch}
-use Rattle.schedule.specs.Ids.{IdsRise, branch_id}
-use Rattle.schedule.specs.Plan.{Plan}
-use Rattle.schedule.specs.Repeats.{repeat_marks, has_too_many_marks}
-use Rattle.schedule.specs.Sound.{IsForked, IsPlaced, IsSound}
-use Rattle.schedule.proofs.Shared.Branches.{fork_of-zero}
-use Rattle.document_replay.specs.Law.{Lead, bare}
-use Rattle.document_replay.specs.Replay.{add_branch, skip_branch}
+use Rattle.document_replay.proofs.Names.{AddBranch, AllByRecursion, Branch, IdsRise, IsForked, IsPlaced, IsSound, Lead, List, None, Plan, RemoveBranch, [], add_branch, all_append, all_so, ap, ap₂, arith, bare, branch_id, false, fork_of}
+use Rattle.document_replay.proofs.Names.{fork_of-zero, has_branch, has_children, is_in_use, length, nat_tests, next_branch, refl, refusal, repeat_marks, skip_branch, subst, sym, true, with_branch, ℕ, ◌++◌, ◌+◌, ◌<◌, ◌==◌, ◌^◌, ◌∷◌, ◌≡◌}
+use Rattle.document_replay.proofs.Names.{◌≤◌}
+use Rattle.schedule.specs.Repeats.{has_too_many_marks}
 use Rattle.document_replay.proofs.Elements.{all_both, all_parts, fewer_before, found_before, none_any, rise_parts, there_before, there_last, without_last}
 use Rattle.document_replay.proofs.Shared.Leading.{Adds}
 

@@ -1,9 +1,5 @@
 -- Lists of elements with rising ids, cut in two, and with one more.
-use Rattle.std.proofs.Common.{◌≡◌, ℕ, ◌+◌, ◌<◌, ◌≤◌, Bool, true, false, List, [], ◌∷◌, ◌++◌, length, refl, sym, ap, subst, arith, length-append}
-use Rattle.std.specs.List.{AllByRecursion, list_any}
-use Rattle.std.proofs.lemmas.Bool.Decides.{nat_tests}
-use Rattle.schedule.specs.Branches.{element_at}
-use Rattle.schedule.specs.Ids.{IdsRise, has_id, without}
+use Rattle.document_replay.proofs.Names.{AllByRecursion, Bool, IdsRise, List, [], ap, arith, element_at, false, has_id, length, length-append, list_any, nat_tests, refl, subst, sym, true, without, ℕ, ◌++◌, ◌+◌, ◌<◌, ◌∷◌, ◌≡◌, ◌≤◌}
 
 pub all_parts : {X : Type 0} (P : X → Type 0) (xs ys : List X) → AllByRecursion P (xs ++ ys)
     → AllByRecursion P xs × AllByRecursion P ys

@@ -1,17 +1,9 @@
 -- The worked document.
-use Rattle.std.proofs.Common.{◌<◌, List, [], ◌∷◌, refl, sym, subst, arith}
-use Rattle.std.specs.List.{AllByRecursion}
-use Rattle.worlds.specs.World.{blank}
-use Rattle.rule_tree.specs.Rule.{states_of, states_of-still, still}
-use Rattle.schedule.specs.Asked.{Asked}
-use Rattle.schedule.specs.Change.{changed}
-use Rattle.schedule.specs.Plan.{Plan, opening}
+use Rattle.document_replay.proofs.Names.{AllByRecursion, Asked, IsSound, Lead, List, Plan, [], arith, blank, changed, opening, refl, states_of, states_of-still, still, subst, sym, ◌<◌, ◌∷◌}
 use Rattle.schedule.specs.Repeats.{has_too_many_marks}
-use Rattle.schedule.specs.Sound.{IsSound}
 use Rattle.schedule.proofs.Shared.Changed.{HasStates, some_changed, sound_changed}
 use Rattle.schedule.proofs.Sounds.{IsSound-opening}
 use Rattle.document_replay.specs.Example.{WorkedDocument, edits_once, worked}
-use Rattle.document_replay.specs.Law.{Lead}
 use Rattle.document_replay.proofs.Shared.Made.{documents_are_made_anew}
 
 sound_all : (edits : List Asked) (p q : Plan) → IsSound p → 0 < states_of p.rule → AllByRecursion HasStates edits

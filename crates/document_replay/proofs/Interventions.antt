@@ -1,26 +1,10 @@
 -- The edits that insert the interventions of a document, or skip ids, aren't refused.
-use Rattle.std.proofs.Common.{true, ◌≡◌, ℕ, ◌+◌, ◌<◌, ◌≤◌, ◌^◌, false, List, [], ◌∷◌, ◌++◌, length, nat_lt, refl, sym, ap, ap₂, arith, None, pos}
-use Rattle.std.specs.List.{AllByRecursion, sum_by}
+use Rattle.document_replay.proofs.Names.{Acts, AllByRecursion, CellSet, Insert, Intervention, IsAllowed, IsMade, IsPlaced, IsSound, Lead, List, None, Plan, RemoveIntervention, [], acts_too_far, add_intervention, all_pass, all_so, ap, ap₂}
+use Rattle.document_replay.proofs.Names.{arith, bookmark_id, false, fork_of-zero, intervention_id, is_bad_repeat, last_id, length, may_be_named, nat_lt, nat_tests, next_intervention, pos, reach, refl, refusal, repeat_marks}
+use Rattle.document_replay.proofs.Names.{skip_intervention, states_of, stay_in_range, sum_by, sym, true, with_intervention, ℕ, ◌++◌, ◌+◌, ◌<◌, ◌^◌, ◌∷◌, ◌≡◌, ◌≤◌}
 use Rattle.std.proofs.lemmas.List.Sums.{sum_by-append, sum_by-cons, sum_by_push}
-use Rattle.std.proofs.lemmas.Bool.Decides.{nat_tests}
-use Rattle.basics.proofs.Shared.Lists.{all_so}
-use Rattle.worlds.specs.declared.cell.CellSet.{CellSet}
-use Rattle.rule_tree.specs.Rule.{states_of}
-use Rattle.schedule.specs.declared.acts.Acts.{Acts}
 use Rattle.schedule.specs.declared.acts.Acts.TheVariants.{Once}
-use Rattle.schedule.specs.declared.document.Intervention.{Intervention}
 use Rattle.schedule.specs.Acts.{IsTimely, first_of, marks_to}
-use Rattle.schedule.specs.Asked.{Insert, RemoveIntervention}
-use Rattle.schedule.specs.Branches.{reach}
-use Rattle.schedule.specs.Change.{acts_too_far, is_bad_repeat, may_be_named, next_intervention, refusal, stay_in_range, with_intervention}
-use Rattle.schedule.specs.Ids.{bookmark_id, intervention_id}
-use Rattle.schedule.specs.Plan.{Plan}
-use Rattle.schedule.specs.Repeats.{repeat_marks}
-use Rattle.schedule.specs.Sound.{IsAllowed, IsPlaced, IsSound}
-use Rattle.schedule.proofs.Shared.Branches.{fork_of-zero}
-use Rattle.schedule.proofs.Each.{all_pass}
-use Rattle.document_replay.specs.Law.{IsMade, Lead, last_id}
-use Rattle.document_replay.specs.Replay.{add_intervention, skip_intervention}
 use Rattle.document_replay.proofs.Branches.{few_marks}
 use Rattle.document_replay.proofs.Bookmarks.{with_bookmarks}
 use Rattle.document_replay.proofs.Elements.{at_cut, fewer_before, there_last, without_last}

@@ -4,3 +4,4 @@ pub mod Shared
 pub mod Branches
 pub mod Bookmarks
 pub mod Interventions
+pub mod Names

@@ -1,23 +1,13 @@
 -- Which squares were put to the rule in a search by nothing that was remembered.
-use Rattle.std.proofs.Common.{◌≡◌, ℕ, zero, suc, ◌+◌, ◌-◌, ◌^◌, min, List, [], ◌∷◌, ◌++◌, length, map, get_or, refl, sym, ◌∙◌, ap, subst, arith}
-use Rattle.std.specs.Prelude.{All, Contains, ℤ}
-use Rattle.std.proofs.lemmas.List.{length-map}
-use Rattle.std.proofs.lemmas.List.Elements.{All-nil, All-cons, All-append, All-weaker, All-head, All-tail, All-contains, Contains-get_or, Contains-append_left, Contains-append_right}
+use Rattle.hash_engine.proofs.Names.{All, All-append, All-cons, All-contains, All-head, All-nil, All-tail, All-weaker, AreDistinct, Asks, AsksOnce, CanBeAsked, Contains, Contains-append_left, Contains-append_right, Contains-get_or}
+use Rattle.hash_engine.proofs.Names.{HasNoFull, IsCounted, IsPut, IsRightMemo, List, Memo, Puts-weaker, PutsBlocks, Square, Stands, Table, [], ap, arith, first_number, fours_of, is_put, length, length-map, map, min, nine_of, one_number}
+use Rattle.hash_engine.proofs.Names.{refl, result, sought, square_at, square_in, subst, suc, sym, without_notes, zero, ℕ, ℤ, ◌++◌, ◌+◌, ◌-◌, ◌^◌, ◌∙◌, ◌∷◌, ◌≡◌}
 use Rattle.worlds.specs.World.{World}
 use Rattle.worlds.specs.Step.{nine_zeros}
-use Rattle.worlds.specs.Square.{Square, square_at}
 use Rattle.square_table.specs.declared.square.Square as handles
-use Rattle.square_table.specs.Squares.{Table, square_in, first_number, without_notes, AreDistinct}
-use Rattle.square_table.proofs.Shared.Numbers.{one_number}
-use Rattle.hash_life.specs.Result.{result}
-use Rattle.hash_life.specs.Puts.{nine_of, fours_of, Puts, Stands, PutsBlocks, AsksOnce}
+use Rattle.hash_life.specs.Puts.{Puts}
 use Rattle.hash_life.proofs.Shared.Places.{what_is_put}
-use Rattle.hash_life.proofs.Shared.Put.{Puts-weaker}
-use Rattle.hash_engine.specs.Found.{CanBeAsked}
-use Rattle.hash_engine.specs.Memo.{IsRightMemo, IsPut, HasNoFull}
-use Rattle.hash_engine.specs.Asked.{is_put, picked, places_put}
-use Rattle.hash_engine.specs.Search.{sought, Asks, IsCounted}
-use Rattle.hash_engine.specs.declared.memo.Memo.{Memo}
+use Rattle.hash_engine.specs.Asked.{picked, places_put}
 use Rattle.hash_engine.proofs.Standing.{within}
 use Rattle.hash_engine.proofs.Picked.{picked-none, All-picked, Contains-picked, different-picked}
 use Rattle.hash_engine.proofs.Shared.{no_full, is_put-none, is_put-two, IsNumber-put, known-put}

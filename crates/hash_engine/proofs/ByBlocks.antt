@@ -1,26 +1,8 @@
 -- The result of a square of 8 by 8 cells by blocks of 4 by 4.
-use Rattle.std.proofs.Common.{◌≡◌, ℕ, ◌+◌, ◌-◌, ◌<◌, min, List, [], ◌∷◌, length, get_or, map, sym, ◌∙◌, refl, ap, subst, arith, inl, inr}
-use Rattle.std.proofs.Math.ListN.{set}
-use Rattle.std.specs.Prelude.{Contains, All}
-use Rattle.std.proofs.lemmas.Bool.{cases_eq}
-use Rattle.std.proofs.lemmas.List.{length-map, get_or-map, length-set, get_or_default, get_or-set_same, get_or-set_other}
-use Rattle.std.proofs.lemmas.List.Elements.{All-nil, All-cons}
-use Rattle.worlds.specs.Square.{Square, one}
-use Rattle.square_table.specs.Squares.{Table, AreNumbers, square_of, Grows, GrowsBy, IsSquareOf}
-use Rattle.square_table.specs.Made.{Adds}
-use Rattle.square_table.proofs.Shared.Growth.{Grows-same, AreNumbers-grows, square_of-grows}
-use Rattle.hash_life.specs.Result.{middle, later, result}
-use Rattle.hash_life.specs.Puts.{Puts, nine_of, fours_of, IsBelow}
-use Rattle.hash_life.specs.Makes.{Makes}
-use Rattle.hash_life.proofs.Shared.InTwo.{result-none, result-later, result-in_two}
-use Rattle.hash_life.proofs.Shared.Made.{Makes-result}
-use Rattle.hash_engine.specs.Standing.{StandsFor, StandForAll}
-use Rattle.hash_engine.specs.Blocks.{IsKnownBlock, AreBlocks, IsReadyBlock, GiveFourBlocks, later_of, no_block, result_of}
-use Rattle.hash_engine.specs.Memo.{IsRightMemo}
-use Rattle.hash_engine.specs.Found.{IsSameRule}
-use Rattle.hash_engine.specs.Search.{sought, KeepsOnWay, CanCompute, CanSeekBlock, CanSeekBlocks, FindsBlock, FirstHaveResults}
-use Rattle.hash_engine.specs.declared.block.Block.{Block}
-use Rattle.hash_engine.specs.declared.memo.Memo.{Memo}
+use Rattle.hash_engine.proofs.Names.{Adds, All, All-cons, All-nil, AreBlocks, AreNumbers, AreNumbers-grows, Block, CanCompute, CanSeekBlock, CanSeekBlocks, Contains, FindsBlock, FirstHaveResults, GiveFourBlocks, Grows, Grows-same, GrowsBy}
+use Rattle.hash_engine.proofs.Names.{IsBelow, IsKnownBlock, IsReadyBlock, IsRightMemo, IsSameRule, IsSquareOf, KeepsOnWay, List, Makes, Makes-result, Memo, Puts, Square, StandForAll, StandsFor, Table, [], ap, arith, cases_eq, fours_of}
+use Rattle.hash_engine.proofs.Names.{get_or, get_or-map, get_or-set_other, get_or-set_same, get_or_default, inl, inr, later, later_of, length, length-map, length-set, map, middle, min, nine_of, no_block, one, refl, result, result-in_two}
+use Rattle.hash_engine.proofs.Names.{result-later, result-none, result_of, set, sought, square_of, square_of-grows, subst, sym, ℕ, ◌+◌, ◌-◌, ◌<◌, ◌∙◌, ◌∷◌, ◌≡◌}
 use Rattle.hash_engine.proofs.Standing.{corner, StandsFor-grows, StandsFor-joined, Adds-made}
 use Rattle.hash_engine.proofs.Finding.{same_rule, Keeps-adds, Keeps-grown, Keeps-then, one_result}
 use Rattle.hash_engine.proofs.Computing.{four_results, makes_parts, puts_parts}

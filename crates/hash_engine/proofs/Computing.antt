@@ -1,29 +1,13 @@
 -- Several results, and a result by nine and by four.
-use Rattle.std.proofs.Common.{◌≡◌, ℕ, suc, ◌+◌, ◌<◌, ◌≤◌, List, length, get_or, refl, sym, ◌∙◌, subst, arith, inl, inr, ◌-◌, ◌^◌, min, map, ap}
-use Rattle.std.proofs.Math.ListN.{set}
-use Rattle.std.specs.Prelude.{Contains, All, true}
-use Rattle.std.proofs.lemmas.Bool.{cases_eq}
-use Rattle.std.proofs.lemmas.List.{length-map, get_or-map, length-set, get_or_default, get_or-set_same, get_or-set_other}
-use Rattle.square_table.specs.Squares.{Table, IsNumber, AreNumbers, square_in, square_of, Grows, GrowsBy, IsSquareOf}
-use Rattle.square_table.proofs.Shared.Growth.{Grows-same, IsNumber-grows, square_in-grows}
-use Rattle.square_table.proofs.Shared.Making.{IsMade-grows, notes_joined}
-use Rattle.hash_life.specs.Puts.{Puts, nine_of, fours_of, IsBelow}
-use Rattle.hash_life.specs.Makes.{Makes}
-use Rattle.hash_engine.specs.declared.memo.Memo.{Memo}
-use Rattle.hash_engine.specs.Search.{CanSeek, CanSeekAll, sought, MakesAll, PutsAll, KeepsOnWay, Asks, IsCounted, IsFound, FirstAreFound, FindsForAll, CanCompute, MakesFor, MakesForAll}
+use Rattle.hash_engine.proofs.Names.{Adds, AddsFours, AddsMiddles, AddsOf, All, All-cons, All-weaker, AreNumbers, Asks, CanCompute, CanSeek, CanSeekAll, Contains, FindsForAll, FirstAreFound, GiveAllOf, GiveFours, GivesMiddles, Grows}
+use Rattle.hash_engine.proofs.Names.{Grows-same, GrowsBy, HasMade, IsBelow, IsCounted, IsFound, IsMade, IsMade-grows, IsNumber, IsNumber-grows, IsPut, IsRightMemo, IsSameRule, IsSquareOf, KeepsOnWay, List, Makes, Makes-itself, Makes-parts}
+use Rattle.hash_engine.proofs.Names.{Makes-result, Makes-weaker, Makes-whole, MakesAll, MakesFor, MakesForAll, Memo, OfParts, Puts, Puts-parts, Puts-whole, PutsAll, Square, StandForAll, StandsFor, Table, ap, arith, cases_eq, four, fours_of}
+use Rattle.hash_engine.proofs.Names.{get_or, get_or-map, get_or-set_other, get_or-set_same, get_or_default, in_two, inl, inr, length, length-map, length-set, map, middle, min, nine_of, notes_joined, one, refl, result-in_two, result-none}
+use Rattle.hash_engine.proofs.Names.{set, sought, square_in-grows, square_of, square_of_four, subst, suc, sym, true, ℕ, ◌+◌, ◌-◌, ◌<◌, ◌^◌, ◌∙◌, ◌≡◌, ◌≤◌}
+use Rattle.square_table.specs.Squares.{square_in}
 use Rattle.hash_engine.proofs.Making.{HasMade-grows}
 use Rattle.hash_engine.proofs.Finding.{HasPut-grows, same_rule, Keeps-adds, Keeps-grown, Keeps-then, IsFound-then, made_of, one_result, StandForAll-found, by_number, by_square, by_found, Asks-then, Asks-grown, Asks-next, IsPut-kept}
-use Rattle.std.proofs.lemmas.List.Elements.{All-weaker, All-cons}
-use Rattle.worlds.specs.Square.{Square, one, four}
-use Rattle.square_table.specs.Made.{IsMade, Adds}
-use Rattle.hash_life.specs.Result.{middle, in_two, result}
-use Rattle.hash_life.proofs.Shared.InTwo.{OfParts, result-none, result-in_two, Puts-parts}
-use Rattle.hash_life.proofs.Shared.Made.{Makes-itself, Makes-result, Makes-parts, Makes-whole, Makes-weaker}
-use Rattle.hash_life.proofs.Shared.Put.{Puts-whole}
-use Rattle.hash_engine.specs.Standing.{StandsFor, StandForAll}
-use Rattle.hash_engine.specs.Adding.{AddsOf, AddsFours, AddsMiddles, GiveAllOf, GiveFours, GivesMiddles, square_of_four}
-use Rattle.hash_engine.specs.Memo.{IsRightMemo, IsPut, HasMade}
-use Rattle.hash_engine.specs.Found.{IsSameRule}
+use Rattle.hash_life.specs.Result.{result}
 use Rattle.hash_engine.proofs.Standing.{◌⟫◌, StandsFor-itself, StandsFor-grows, StandsFor-joined, Adds-made, four_stand}
 
 -- the first i of the squares have their results, and the others are as they were

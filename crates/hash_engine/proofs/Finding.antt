@@ -1,32 +1,14 @@
 -- What a search puts to the rule, keeps and finds, step by step.
-use Rattle.std.proofs.Common.{◌≡◌, ℕ, suc, ◌+◌, ◌-◌, ◌*◌, ◌<◌, ◌≤◌, ◌^◌, List, length, get_or, refl, sym, ◌∙◌, ap, subst, arith, inl, inr, [], ◌∷◌, map}
-use Rattle.std.specs.Prelude.{Contains, ◌≢◌, All}
-use Rattle.std.proofs.lemmas.Bool.{cases_eq}
-use Rattle.worlds.specs.Square.{Square, one}
-use Rattle.square_table.specs.Squares.{Table, IsNumber, square_in, first_number, Grows, level_of, number_of, cells_of}
+use Rattle.hash_engine.proofs.Names.{Adds, AddsOf, All, All-cons, All-nil, AreAmong, AreKnown, AreWays, Asks, CanBeAsked, CanSeek, Contains, FindsForAll, GivesOf, Grows, Grows-then, HasPut, HasWays, IsCounted, IsFound, IsMade, IsNumber}
+use Rattle.hash_engine.proofs.Names.{IsNumber-grows, IsPut, IsRemembered, IsResult, IsRightMemo, IsSameRule, KeepsOnWay, KeepsRows, List, Makes, Makes-result, Memo, Puts, Puts-itself, Puts-last, Puts-none, Puts-weaker, PutsOnly, Square}
+use Rattle.hash_engine.proofs.Names.{StandForAll, StandsFor, StaysRight, Table, [], ap, append-nil, arith, cases_eq, cells_of, first_number, get_or, get_or-map, inl, inr, is_put, later, length, length-map, level_of, map, middle, number_of}
+use Rattle.hash_engine.proofs.Names.{one, one_level, picked, refl, result, result-later, result-none, sought, square_in, square_in-grows, subst, suc, sym, ℕ, ◌*◌, ◌+◌, ◌-◌, ◌<◌, ◌^◌, ◌∙◌, ◌∷◌, ◌≡◌, ◌≢◌, ◌≤◌}
 use Rattle.square_table.specs.declared.square.Square as handles
-use Rattle.square_table.proofs.Shared.Growth.{IsNumber-grows, square_in-grows, Grows-then, Grows-same}
-use Rattle.square_table.proofs.Shared.Numbers.{one_level}
-use Rattle.hash_life.specs.Puts.{Puts}
-use Rattle.hash_life.proofs.Shared.InTwo.{Puts-itself, result-none, result-later}
 use Rattle.hash_life.proofs.Shared.Below as states
-use Rattle.hash_life.proofs.Shared.Put.{Puts-last, Puts-weaker, Puts-none}
-use Rattle.hash_engine.specs.Memo.{AreKnown, IsRightMemo, IsPut, AreWays, HasWays, HasPut, IsRemembered, IsResult, KeepsRows, StaysRight}
-use Rattle.hash_engine.specs.Asked.{is_put, picked, places_put, PutsOnly}
-use Rattle.hash_engine.specs.Search.{sought, Asks, KeepsOnWay, CanSeek, IsCounted, IsFound, FindsForAll}
-use Rattle.hash_engine.specs.declared.memo.Memo.{Memo}
-use Rattle.hash_engine.specs.Found.{CanBeAsked, IsSameRule}
+use Rattle.hash_engine.specs.Asked.{places_put}
 use Rattle.hash_engine.proofs.Standing.{above, within, below_some, StandsFor-itself, StandsFor-grows}
 use Rattle.hash_engine.proofs.Picked.{picked-same, picked-more}
 use Rattle.hash_engine.proofs.Shared.{IsRight-grows, is_put-none, is_put-two, is_put-more, is_put-agrees, count-grows, others}
-use Rattle.square_table.specs.Made.{IsMade, AreAmong, Adds}
-use Rattle.std.proofs.lemmas.List.{append-nil, length-map, get_or-map}
-use Rattle.std.proofs.lemmas.List.Elements.{All-nil, All-cons}
-use Rattle.hash_life.specs.Result.{middle, later, result}
-use Rattle.hash_life.specs.Makes.{Makes}
-use Rattle.hash_life.proofs.Shared.Made.{Makes-result}
-use Rattle.hash_engine.specs.Standing.{StandsFor, StandForAll}
-use Rattle.hash_engine.specs.Adding.{AddsOf, GivesOf}
 
 -- in a table that grew the same squares were put
 pub IsPut-grows : (t u : Table) (full : List ℕ) (s : Square) → Grows t u → IsPut t.rows full s → IsPut u.rows full s

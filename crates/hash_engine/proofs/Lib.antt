@@ -6,3 +6,4 @@ pub mod Making
 pub mod Computing
 pub mod ByBlocks
 pub mod Blocks
+pub mod Names

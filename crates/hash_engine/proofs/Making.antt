@@ -1,19 +1,6 @@
 -- What is made on the ways to results is there.
-use Rattle.std.proofs.Common.{◌≡◌, ℕ, suc, ◌-◌, ◌<◌, List, sym, subst}
-use Rattle.square_table.specs.Squares.{Table, IsNumber, Grows}
-use Rattle.worlds.specs.Square.{Square}
-use Rattle.square_table.specs.Made.{IsMade}
-use Rattle.square_table.proofs.Shared.Growth.{IsNumber-grows, square_in-grows}
-use Rattle.square_table.proofs.Shared.Making.{IsMade-grows}
-use Rattle.hash_life.specs.Result.{middle, later}
-use Rattle.hash_life.specs.Makes.{Makes}
-use Rattle.hash_life.proofs.Shared.InTwo.{result-none, result-later}
-use Rattle.hash_life.proofs.Shared.Made.{Makes-none, Makes-last, Makes-weaker}
-use Rattle.hash_engine.specs.Standing.{StandsFor}
-use Rattle.hash_engine.specs.Adding.{GivesOf}
-use Rattle.hash_engine.specs.Memo.{IsRightMemo, HasMade, IsRemembered, KeepsRows}
-use Rattle.hash_engine.specs.Search.{sought, MakesFor}
-use Rattle.hash_engine.specs.declared.memo.Memo.{Memo}
+use Rattle.hash_engine.proofs.Names.{GivesOf, Grows, HasMade, IsMade, IsMade-grows, IsNumber, IsNumber-grows, IsRemembered, IsRightMemo, KeepsRows, List, Makes, Makes-last, Makes-none, Makes-weaker, MakesFor, Memo, Square, StandsFor, Table}
+use Rattle.hash_engine.proofs.Names.{later, middle, result-later, result-none, sought, square_in-grows, subst, suc, sym, ℕ, ◌-◌, ◌<◌, ◌≡◌}
 use Rattle.hash_engine.proofs.Standing.{StandsFor-itself, StandsFor-grows}
 use Rattle.hash_engine.proofs.Finding.{HasWays-grows, HasWays-noted, made_of}
 

@@ -1,9 +1,6 @@
 -- The numbers that pass a test.
-use Rattle.std.proofs.Common.{◌≡◌, ℕ, zero, suc, ◌+◌, add-one, ◌<◌, ◌≤◌, List, [], ◌∷◌, length, map, refl, arith}
-use Rattle.std.specs.Prelude.{Bool, true, false, cond, All, Contains, ◌≢◌}
+use Rattle.hash_engine.proofs.Names.{All, All-cons, All-nil, Bool, Contains, Contains-append_right, Contains-get_or, List, [], add-one, arith, cases_eq, cond, false, length, map, refl, suc, true, zero, ℕ, ◌+◌, ◌<◌, ◌∷◌, ◌≡◌, ◌≢◌, ◌≤◌}
 use Rattle.std.specs.List.{AllPairs}
-use Rattle.std.proofs.lemmas.Bool.{cases_eq}
-use Rattle.std.proofs.lemmas.List.Elements.{All-nil, All-cons, Contains-get_or, Contains-append_right}
 use Rattle.std.proofs.lemmas.List.Kept.{AllPairs-cons}
 use Rattle.hash_engine.specs.Asked.{picked}
 

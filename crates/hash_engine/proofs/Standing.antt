@@ -1,18 +1,10 @@
 -- Numbers that stand for squares in a table that grows, and squares that are added to it.
-use Rattle.std.proofs.Common.{◌≡◌, ℕ, zero, suc, ◌+◌, ◌<◌, ◌≤◌, List, [], ◌∷◌, length, get_or, map, drop, drop-cons, refl, ap, arith, sym, ◌∙◌, subst, lit<, inl}
-use Rattle.std.proofs.lemmas.List.{drop_all}
-use Rattle.worlds.specs.Square.{Square, one, four}
-use Rattle.square_table.specs.Squares.{Table, IsNumber, AreNumbers, square_in, square_of, kids_at, first_number, IsSquareOf, Grows, GrowsBy}
-use Rattle.square_table.proofs.Shared.Growth.{Grows-then, IsNumber-grows, square_in-grows, AreNumbers-grows, square_of-grows, IsNumber-joined, square_in-joined, AreNumbers-quadrants, square_in-quadrants, Grows-same}
-use Rattle.hash_life.specs.Puts.{fours_of, IsBelow, nine_of}
-use Rattle.hash_engine.specs.Standing.{StandsFor, StandForAll}
-use Rattle.std.specs.Prelude.{Contains}
-use Rattle.std.proofs.lemmas.List.Elements.{All-nil, All-cons, All-tail, All-contains, Contains-get_or}
-use Rattle.square_table.specs.Made.{Adds}
-use Rattle.square_table.proofs.Shared.Making.{Adds-joined}
-use Rattle.hash_engine.specs.Adding.{AddsOf, AddsJoined, MakeFour}
-use Rattle.hash_engine.specs.Blocks.{IsBlock, AreBlocks, no_block, result_of}
-use Rattle.hash_engine.specs.declared.block.Block.{Block}
+use Rattle.hash_engine.proofs.Names.{Adds, Adds-joined, AddsJoined, AddsOf, All-cons, All-contains, All-nil, All-tail, AreBlocks, AreNumbers, AreNumbers-grows, AreNumbers-quadrants, Block, Contains, Contains-get_or, Grows, Grows-same}
+use Rattle.hash_engine.proofs.Names.{Grows-then, GrowsBy, IsBlock, IsNumber-grows, IsNumber-joined, IsSquareOf, List, MakeFour, Square, StandForAll, StandsFor, Table, [], ap, arith, drop, drop-cons, drop_all, first_number, four, fours_of}
+use Rattle.hash_engine.proofs.Names.{get_or, inl, kids_at, length, lit<, map, nine_of, no_block, one, refl, result_of, square_in, square_in-grows, square_in-joined, square_in-quadrants, square_of, square_of-grows, subst, suc, sym, zero, ℕ}
+use Rattle.hash_engine.proofs.Names.{◌+◌, ◌<◌, ◌∙◌, ◌∷◌, ◌≡◌, ◌≤◌}
+use Rattle.square_table.specs.Squares.{IsNumber}
+use Rattle.hash_life.specs.Puts.{IsBelow}
 
 infixr 20 ◌⟫◌
 pub ◌⟫◌ : {t u v : Table} → Grows t u → Grows u v → Grows t v

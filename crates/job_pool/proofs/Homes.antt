@@ -1,12 +1,10 @@
 -- Each step of the queue of answers keeps its rule.
-use Rattle.std.proofs.Common.{◌≡◌, ◌≢◌, ℕ, zero, suc, List, [], ◌∷◌, ◌++◌, length, set, Option, Some, None, sym, refl, ◌∙◌, subst, ⊎_elim, arith}
+use Rattle.job_pool.proofs.Names.{AreAnswersOf, IsAnswerOf, IsHome, List, None, Option, Some, Terms, [], arith, length, refl, set, subst, suc, sym, zero, ℕ, ⊎_elim, ◌++◌, ◌∙◌, ◌∷◌, ◌≡◌, ◌≢◌}
 use mathlib.Core.Option.{some, some-ne-none, some-injective}
 use lib.ListN.{get_elem?}
 use Rattle.crossbeam_channel.specs.Fifo.{Pushes, Pops, Forks}
 use Rattle.atomic_table.proofs.Lists.{at_set, at_snoc, set_again}
-use Rattle.job_pool.specs.declared.answer_rule.Terms.{Terms}
 use Rattle.revision_jobs.specs.Answer.{JobResult}
-use Rattle.job_pool.specs.Home.{IsAnswerOf, AreAnswersOf, IsHome}
 
 some_none : (t : Terms) → Some t ≡ None → ⊥
 some_none t e = cc

@@ -1,9 +1,6 @@
 -- What is sent into one of two queues is sent by both together.
-use Rattle.std.proofs.Common.{◌≡◌, ◌∙◌, ℕ, ◌+◌, ◌≤◌, List, [], ◌∷◌, ◌++◌, ap, arith, subst, sym}
+use Rattle.job_pool.proofs.Names.{List, Slip, [], ap, arith, floor_of, floor_push, subst, sym, ℕ, ◌++◌, ◌+◌, ◌∙◌, ◌∷◌, ◌≡◌, ◌≤◌}
 use Rattle.std.proofs.lemmas.List.Sums.{sum_by_push}
-use Rattle.job_queue.specs.declared.rule.Slip.{Slip}
-use Rattle.job_queue.specs.Slips.{floor_of}
-use Rattle.job_queue.proofs.Shared.Once.{floor_push}
 use Rattle.job_pool.specs.Lanes.{IsSplit}
 
 -- the floor lies no lower behind one more slip from the floor on

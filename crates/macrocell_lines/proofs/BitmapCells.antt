@@ -1,15 +1,9 @@
 -- The cells of a bitmap, by the line that it was read from.
-use Rattle.std.proofs.Common.{◌≡◌, ◌∙◌, sym, ap, refl, ℕ, zero, suc, ◌+◌, ◌*◌, ◌/◌, ◌%◌, ◌^◌, ◌==◌, ◌&&◌, Bool, true, false, cond, List, [], ◌∷◌, length, replicate, Option, Some, None, arith}
-use Rattle.std.specs.Prelude.{nat_le, slice_index, slice_index_or}
-use Rattle.std.specs.List.{list_all}
-use Rattle.std.specs.Option.{option_map}
+use Rattle.macrocell_lines.proofs.Names.{BitmapsShowTheirLines, Bool, List, None, Option, Some, [], ap, arith, cond, differs, div-div-eq-div-mul, false, is_cell, length, list_all, nat_le, option_map, pieces, pow-succ', refl, replicate}
+use Rattle.macrocell_lines.proofs.Names.{row_bits, row_of, rows_of, slice_index, slice_index_or, suc, sym, true, zero, zero-div, ℕ, ◌%◌, ◌&&◌, ◌*◌, ◌+◌, ◌/◌, ◌==◌, ◌^◌, ◌∙◌, ◌∷◌, ◌≡◌}
 use Rattle.std.proofs.lemmas.Bool.{false≢true}
-use Rattle.std.proofs.Math.Nat.{div-div-eq-div-mul, pow-succ', zero-div}
 use Rattle.macrocell_lines.specs.declared.bitmap.Bitmap.{Bitmap}
-use Rattle.macrocell_lines.specs.Bitmaps.{is_cell, row_bits, row_of, rows_of}
-use Rattle.macrocell_lines.specs.Laws.{BitmapsShowTheirLines}
-use Rattle.macrocell_lines.specs.Pieces.{◌>>=◌, pieces}
-use Rattle.text_lines.proofs.Shared.ByteRanges.{differs}
+use Rattle.macrocell_lines.specs.Pieces.{◌>>=◌}
 
 bit-first : (rest : ℕ) (b : Bool) → (((2 * rest + cond b 1 0) / 2 ^ 0) % 2 == 1) ≡ b
 bit-first rest true = let odd : ((2 * rest + 1) / 1) % 2 ≡ 1 = omega arith in ap (λ n. n == 1) odd

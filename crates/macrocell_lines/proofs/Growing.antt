@@ -1,7 +1,5 @@
 -- Nodes that follow those before them, with one more.
-use Rattle.std.proofs.Common.{◌<◌, List, [], ◌∷◌, ◌++◌, length, sym, subst, arith, append-nil, append_assoc, length-append}
-use Rattle.macrocell_lines.specs.declared.node.Node.{Node}
-use Rattle.macrocell_lines.specs.Nodes.{AreNodes, EachFollows, Follows}
+use Rattle.macrocell_lines.proofs.Names.{AreNodes, EachFollows, Follows, List, Node, [], append-nil, append_assoc, arith, length, length-append, subst, sym, ◌++◌, ◌<◌, ◌∷◌}
 
 pub each-push : (front nodes : List Node) (node : Node) → EachFollows front nodes → Follows (front ++ nodes) node → EachFollows front (nodes ++ node ∷ [])
 each-push front [] node h k = (subst (λ ns. Follows ns node) (append-nil front) k, tt)

@@ -6,3 +6,4 @@ pub mod Rows
 pub mod WrittenBitmaps
 pub mod WrittenNodes
 pub mod Shared
+pub mod Names

@@ -1,12 +1,6 @@
 -- Lines of numbers in decimal.
-use Rattle.std.proofs.Common.{◌≡◌, ◌∙◌, ap, refl, ℕ, ◌-◌, min, ◌^◌, ◌≤◌, ◌==◌, [], ◌∷◌, Some, decimal, arith}
-use Rattle.std.specs.List.{AllByRecursion}
-use Rattle.std.specs.Option.{option_map}
-use Rattle.macrocell_lines.specs.Pieces.{five_in, five_numbers, number_in}
-use Rattle.macrocell_lines.specs.WrittenText.{numbers_line}
-use Rattle.text_lines.proofs.Shared.NumberLines.{Parts, words-numbers}
-use Rattle.text_lines.proofs.Shared.ByteRanges.{differs}
-use Rattle.text_lines.proofs.Shared.Decimals.{IsWide, number_of-decimal}
+use Rattle.macrocell_lines.proofs.Names.{AllByRecursion, IsWide, Parts, Some, [], ap, arith, decimal, differs, five_in, five_numbers, min, number_in, number_of-decimal, numbers_line, option_map, refl, words-numbers, ℕ, ◌-◌, ◌==◌, ◌^◌, ◌∙◌}
+use Rattle.macrocell_lines.proofs.Names.{◌∷◌, ◌≡◌, ◌≤◌}
 
 parts-words : Parts (λ b. b == 32)
 parts-words = record { space = refl; digit = λ b h. let low : 48 ≤ b = h.0 in differs b 32 (λ e. omega arith) }

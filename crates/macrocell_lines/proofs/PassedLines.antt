@@ -1,11 +1,7 @@
 -- Lines that were passed without a fault, with one more.
-use Rattle.std.proofs.Common.{◌≡◌, ◌∙◌, ap, refl, ℕ, zero, suc, ◌+◌, ◌-◌, ◌≤◌, true, List, [], ◌∷◌, ◌++◌, length, take, drop, Result, Ok, Err, arith, length-append}
-use Rattle.std.specs.Prelude.{codes, nat_eq}
-use Rattle.std.specs.List.{starts_with}
-use Rattle.basics.specs.Results.{◌>>=◌}
+use Rattle.macrocell_lines.proofs.Names.{BeginsWithNodes, Err, List, MacrocellText, Node, Ok, Result, [], after_line, after_lines, ap, arith, codes, drop, length, length-append, nat_eq, nothing_said, refl, said_by, starts_with, suc, take}
+use Rattle.macrocell_lines.proofs.Names.{true, zero, ℕ, ◌++◌, ◌+◌, ◌-◌, ◌>>=◌, ◌∙◌, ◌∷◌, ◌≡◌, ◌≤◌}
 use Rattle.macrocell_lines.specs.declared.fault.McFault.{McFault}
-use Rattle.macrocell_lines.specs.declared.node.Node.{Node}
-use Rattle.macrocell_lines.specs.MacrocellText.{BeginsWithNodes, MacrocellText, after_line, after_lines, nothing_said, said_by}
 
 ok_first : (read : Result MacrocellText McFault) (f : MacrocellText → Result MacrocellText McFault) (last : MacrocellText) → (read >>= f) ≡ Ok last → (first : MacrocellText) × (read ≡ Ok first) × (f first ≡ Ok last)
 ok_first (Ok first) f last h = (first, refl, h)

@@ -1,12 +1,9 @@
 -- The rows of a square, one after another, and how large their bits are.
-use Rattle.std.proofs.Common.{◌≡◌, ℕ, zero, suc, ◌+◌, ◌-◌, ◌^◌, ◌==◌, ◌<◌, ◌≤◌, Bool, true, false, cond, List, [], ◌∷◌, ◌++◌, length, take, drop, set, replicate, Option, Some, None, refl, sym, ap, ◌∙◌, append_assoc, arith}
+use Rattle.macrocell_lines.proofs.Names.{Bool, List, None, Option, Some, [], ap, append_assoc, arith, cond, drop, false, length, option_map, pow-suc, refl, replicate, row_bits, row_of, rows_of, set, slice_index, suc, sym, take, true, zero}
+use Rattle.macrocell_lines.proofs.Names.{ℕ, ◌++◌, ◌+◌, ◌-◌, ◌<◌, ◌==◌, ◌^◌, ◌∙◌, ◌∷◌, ◌≡◌, ◌≤◌}
 use mir.Val.{bool_byte}
-use Rattle.std.specs.Prelude.{slice_index}
-use Rattle.std.specs.Option.{option_map}
-use Rattle.std.proofs.Math.Nat.{pow-suc}
 use Rattle.std.proofs.Math.Pow.{pow_mono}
 use Rattle.std.proofs.lemmas.List.{take_more_set, take-append-drop, drop-set-lt, drop-drop, drop-replicate}
-use Rattle.macrocell_lines.specs.Bitmaps.{row_bits, row_of, rows_of}
 use Rattle.macrocell_lines.specs.Pieces.{◌>>=◌}
 
 bit-below : (b : Bool) → cond b 1 0 < 2

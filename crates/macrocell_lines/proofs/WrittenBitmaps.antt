@@ -1,28 +1,13 @@
 -- Bitmaps that are written as lines read back.
-use Rattle.std.proofs.Common.{◌≡◌, ◌∙◌, sym, ap, ap₂, refl, ℕ, zero, suc, ◌*◌, ◌/◌, ◌%◌, ◌^◌, ◌<◌, ◌==◌, ◌&&◌, ◌⊎◌, inl, inr, Bool, true, false, cond, List, [], ◌∷◌, ◌++◌, length, map, Option, Some, None, Ok, arith, append_assoc}
-use Rattle.std.specs.Prelude.{nat_le, nat_lt, ok_or, slice_index}
-use Rattle.std.specs.List.{All, AllByRecursion, list_all}
-use Rattle.std.specs.Option.{option_map}
-use Rattle.std.proofs.Math.Nat.{pow-suc}
-use Rattle.std.proofs.lemmas.Bool.Decides.{nat_tests}
+use Rattle.macrocell_lines.proofs.Names.{All, AllByRecursion, BadRow, Bitmap, Bool, IsBitmap, IsLine, IsVisible, List, MacrocellText, Node, None, Ok, Option, Some, [], after_line, all_append, all_so, ap, append_assoc, ap₂, arith, bitmap_of}
+use Rattle.macrocell_lines.proofs.Names.{check_room, cond, false, inl, inr, is_cell, length, line-visible, list_all, map, nat_le, nat_lt, nat_tests, node_of, ok_or, option_map, pieces, pow-suc, refl, row_bits, row_of, rows_of, rows_text}
+use Rattle.macrocell_lines.proofs.Names.{slice_index, suc, sym, true, zero, ℕ, ◌%◌, ◌&&◌, ◌*◌, ◌++◌, ◌/◌, ◌<◌, ◌==◌, ◌>>=◌, ◌^◌, ◌∙◌, ◌∷◌, ◌≡◌, ◌⊎◌}
 use Rattle.std.proofs.lemmas.List.Elements.{All-from_recursion}
 use Rattle.std.proofs.lemmas.List.Splits.{slice_split_at}
 use Rattle.std.proofs.lemmas.Nat.{div_below}
-use Rattle.basics.specs.Results.{◌>>=◌}
 use Rattle.macrocell_lines.specs.declared.bitmap.Bitmap as bitmaps
-use Rattle.macrocell_lines.specs.declared.fault.McFault.TheVariants.{BadRow}
-use Rattle.macrocell_lines.specs.declared.node.Node.{Node}
-use Rattle.macrocell_lines.specs.declared.node.Node.TheVariants.{Bitmap}
-use Rattle.macrocell_lines.specs.Bitmaps.{bitmap_of, is_cell, row_bits, row_of, rows_of}
-use Rattle.macrocell_lines.specs.MacrocellText.{MacrocellText, after_line}
-use Rattle.macrocell_lines.specs.NodeLines.{check_room, node_of}
-use Rattle.macrocell_lines.specs.Nodes.{IsBitmap}
 use Rattle.macrocell_lines.specs.Pieces as options
-use Rattle.macrocell_lines.specs.Pieces.{pieces}
-use Rattle.macrocell_lines.specs.WrittenText.{row_text, rows_text}
-use Rattle.basics.proofs.Shared.Lists.{all_append, all_so}
-use Rattle.text_lines.proofs.Shared.ByteRanges.{IsVisible}
-use Rattle.text_lines.proofs.Shared.PrintedLines.{IsLine, line-visible}
+use Rattle.macrocell_lines.specs.WrittenText.{row_text}
 
 -- a dead or a live cell
 abbrev IsCell : ℕ → Type 0

@@ -1,27 +1,12 @@
 -- Nodes that are written as lines read back.
-use Rattle.std.proofs.Common.{◌≡◌, ◌∙◌, sym, ap, refl, ℕ, ◌+◌, ◌-◌, ◌^◌, ◌<◌, ◌≤◌, ◌==◌, Bool, true, false, cond, IsTrue, List, [], ◌∷◌, ◌++◌, length, map, Option, Some, None, Ok, arith, append-nil, append_assoc, length-append}
-use Rattle.std.specs.Prelude.{nat_le, nat_lt, ok_or, slice_get}
-use Rattle.std.specs.List.{AllByRecursion}
-use Rattle.std.specs.Option.{option_map_or}
-use Rattle.std.proofs.lemmas.Bool.Decides.{nat_tests}
+use Rattle.macrocell_lines.proofs.Names.{AllByRecursion, AreQuadrants, AreStates, BadRow, Bitmap, Bool, Cells, EachFollows, Follows, IsDigit, IsLine, IsNumberLine, IsTrue, IsWide, List, MacrocellText, Node, None, Ok, Option, Some, Square}
+use Rattle.macrocell_lines.proofs.Names.{[], after_line, after_lines, ap, append-nil, append_assoc, arith, check_room, cond, differs, digit-test, false, five_numbers, is_child, length, length-append, level_of, map, nat_le, nat_lt}
+use Rattle.macrocell_lines.proofs.Names.{nat_tests, node_line, node_of, numbers-line, numbers-start, numbers_line, ok_or, option_map_or, quartered, refl, slice_get, sym, true, ℕ, ◌++◌, ◌+◌, ◌-◌, ◌<◌, ◌==◌, ◌>>=◌, ◌^◌, ◌∙◌, ◌∷◌, ◌≡◌, ◌≤◌}
 use Rattle.std.proofs.lemmas.Option.{slice_get_within}
-use Rattle.basics.specs.Results.{◌>>=◌}
-use Rattle.macrocell_lines.specs.declared.fault.McFault.TheVariants.{BadRow}
-use Rattle.macrocell_lines.specs.declared.node.Node.{Node}
-use Rattle.macrocell_lines.specs.declared.node.Node.TheVariants.{Cells, Square, Bitmap}
 use Rattle.macrocell_lines.specs.declared.numbers.FiveNumbers.{FiveNumbers}
 use Rattle.macrocell_lines.specs.Headings.{Heading}
-use Rattle.macrocell_lines.specs.MacrocellText.{MacrocellText, after_line, after_lines}
-use Rattle.macrocell_lines.specs.NodeLines.{check_room, node_of, quartered}
-use Rattle.macrocell_lines.specs.Nodes.{AreQuadrants, AreStates, EachFollows, Follows, is_child, level_of}
-use Rattle.macrocell_lines.specs.Pieces.{five_numbers}
 use Rattle.macrocell_lines.specs.Quadrants.{cells_of, child_of, square_of, state_of}
-use Rattle.macrocell_lines.specs.WrittenText.{node_line, numbers_line}
-use Rattle.text_lines.proofs.Shared.Decimals.{IsWide}
-use Rattle.text_lines.proofs.Shared.ByteRanges.{IsDigit, differs, digit-test}
-use Rattle.text_lines.proofs.Shared.NumberLines.{IsNumberLine, numbers-line, numbers-start}
 use Rattle.macrocell_lines.proofs.NumberLines.{five-written}
-use Rattle.text_lines.proofs.Shared.PrintedLines.{IsLine}
 use Rattle.macrocell_lines.proofs.WrittenBitmaps.{bitmap-taken, rows-line}
 
 node_of-digit : (number : ℕ) (nodes : List Node) (b : ℕ) (bs : List ℕ) → IsDigit b → node_of number nodes (b ∷ bs) ≡ (ok_or (five_numbers (b ∷ bs)) (BadRow number) >>= λ said. quartered number nodes said)

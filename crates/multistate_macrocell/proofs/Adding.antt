@@ -1,13 +1,8 @@
 -- Rows that are added one behind another.
-use Rattle.std.proofs.Common.{◌≡◌, ℕ, zero, suc, ◌-◌, ◌<◌, ◌≤◌, List, [], ◌∷◌, ◌++◌, length, get_or, refl, sym, ap, ◌∙◌, subst, arith, append-nil, lit<}
-use Rattle.std.proofs.lemmas.List.{length_push, get_or_push}
-use Rattle.plane_core.specs.declared.row.SquareRow.{SquareRow}
-use Rattle.worlds.specs.Square.{Square, one, four}
-use Rattle.plane_core.specs.Rows.{AreRows, IsNumber, IsRow, kid, no_row, row_at, square_in}
+use Rattle.multistate_macrocell.proofs.Names.{Adds, AreRows, AreRows-push, IsNumber, IsNumber-from, IsNumber-grown, IsNumber-state, IsRow, List, Square, SquareRow, [], ap, append-nil, arith, four, get_or, get_or_push, kid, length}
+use Rattle.multistate_macrocell.proofs.Names.{length_push, lit<, no_row, one, refl, root_level-some, row_at, row_of, square_in, square_in-grown, square_in-row, square_in-state, square_of_row, subst, suc, sym, zero, ℕ, ◌++◌, ◌-◌, ◌<◌, ◌∙◌}
+use Rattle.multistate_macrocell.proofs.Names.{◌∷◌, ◌≡◌, ◌≤◌}
 use Rattle.plane_core.proofs.Shared.Numbering.{Grows, Grows-more, Grows-then}
-use Rattle.plane_core.proofs.Shared.Roots.{root_level-some}
-use Rattle.plane_core.proofs.Shared.Sound.{AreRows-push, IsNumber-from, IsNumber-grown, IsNumber-state, row_of, square_in-grown, square_in-row, square_in-state}
-use Rattle.multistate_macrocell.specs.Tables.{Adds, square_of_row}
 
 -- rows that were added to have grown
 pub adds-grows : (old new : List SquareRow) (k n : ℕ) (t : Square) → Adds old new k n t → Grows old new

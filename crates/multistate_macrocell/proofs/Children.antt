@@ -1,13 +1,6 @@
 -- The quadrants of a node are earlier nodes.
-use Rattle.std.proofs.Common.{◌≡◌, ◌∙◌, sym, ap, refl, ℕ, zero, suc, ◌+◌, ◌<◌, ◌≤◌, ◌==◌, Bool, true, false, List, [], ◌∷◌, ◌++◌, length, take, Option, Some, None, arith, append_assoc, append-nil, length-take}
-use Rattle.std.specs.Prelude.{IsTrue, slice_get}
-use Rattle.std.specs.Option.{option_map_or}
-use Rattle.std.proofs.lemmas.Bool.Decides.{nat_tests}
-use Rattle.std.proofs.lemmas.Bool.{eqb-true, eq-eqb}
-use Rattle.std.proofs.lemmas.List.{get_or-take}
-use Rattle.std.proofs.lemmas.Option.{get_or_from_slice_get, slice_get-get_or, slice_get_within}
-use Rattle.macrocell_lines.specs.declared.node.Node.{Node}
-use Rattle.macrocell_lines.specs.Nodes.{EachFollows, Follows, is_child, level_of}
+use Rattle.multistate_macrocell.proofs.Names.{Bool, EachFollows, Follows, IsTrue, List, Node, None, Option, Some, [], ap, append-nil, append_assoc, arith, eq-eqb, eqb-true, false, get_or-take, get_or_from_slice_get, is_child, length}
+use Rattle.multistate_macrocell.proofs.Names.{length-take, level_of, nat_tests, option_map_or, refl, slice_get, slice_get-get_or, slice_get_within, suc, sym, take, true, zero, ℕ, ◌++◌, ◌+◌, ◌<◌, ◌==◌, ◌∙◌, ◌∷◌, ◌≡◌, ◌≤◌}
 
 -- a node of one level less
 abbrev fits_under : ℕ → Option Node → Bool

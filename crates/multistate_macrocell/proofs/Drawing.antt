@@ -1,9 +1,6 @@
 -- The square that a bitmap draws, by its quadrants.
-use Rattle.std.proofs.Common.{◌≡◌, ℕ, zero, suc, ◌+◌, ◌*◌, ◌<◌, ◌≤◌, ◌^◌, Bool, cond, sym, ap, ◌∙◌, arith, pow-suc}
+use Rattle.multistate_macrocell.proofs.Names.{Bitmap, Bool, ap, arith, cond, four, is_live, one, pow-suc, suc, sym, zero, ℕ, ◌*◌, ◌+◌, ◌<◌, ◌^◌, ◌∙◌, ◌≡◌, ◌≤◌}
 use mir.Val.{bool_byte}
-use Rattle.macrocell_lines.specs.declared.bitmap.Bitmap.{Bitmap}
-use Rattle.macrocell_lines.specs.Bitmaps.{is_live}
-use Rattle.worlds.specs.Square.{one, four}
 use Rattle.multistate_macrocell.specs.Quadtree.{drawn}
 
 -- one cell

@@ -6,3 +6,4 @@ pub mod Standing
 pub mod Written
 pub mod RowNodes
 pub mod NodeCells
+pub mod Names

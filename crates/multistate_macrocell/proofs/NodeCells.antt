@@ -1,18 +1,9 @@
 -- The cells of the world of nodes.
-use Rattle.std.proofs.Common.{◌≡◌, ◌∙◌, sym, refl, subst, ℕ, zero, suc, ◌+◌, ◌-◌, ◌<◌, ◌^◌, Bool, cond, List, [], length, take, Some, arith, pos, ◌+ℤ◌}
-use Rattle.std.specs.Prelude.{IsTrue, slice_get}
-use Rattle.std.proofs.lemmas.Option.{slice_get_within}
-use Rattle.macrocell_lines.specs.declared.bitmap.Bitmap.{Bitmap}
-use Rattle.macrocell_lines.specs.declared.node.Node.{Node}
-use Rattle.macrocell_lines.specs.declared.node.Node.TheVariants.{Cells, Square as Quartered, Bitmap as Drawn}
-use Rattle.macrocell_lines.specs.Bitmaps.{is_live}
-use Rattle.macrocell_lines.specs.Nodes.{AreNodes, Follows, is_child, level_of}
-use Rattle.worlds.specs.World.{World, blank, cell-blank}
-use Rattle.worlds.specs.Square.{IsSquare, Square, empty_square, put_square}
-use Rattle.plane_core.specs.Rows.{edge_of}
+use Rattle.multistate_macrocell.proofs.Names.{AreNodes, Bitmap, Bool, Cells, Follows, IsSquare, IsTrue, List, Node, NodesShowTheirRoot, ShowsRoot, Some, Square, World, [], arith, blank, cell-blank, cond, edge_of, empty_square, is_child}
+use Rattle.multistate_macrocell.proofs.Names.{is_live, length, level_of, pos, put_square, refl, slice_get, slice_get_within, subst, suc, sym, take, world_of_nodes, zero, ℕ, ◌+ℤ◌, ◌+◌, ◌-◌, ◌<◌, ◌^◌, ◌∙◌, ◌≡◌}
+use Rattle.macrocell_lines.specs.declared.node.Node.TheVariants.{Square as Quartered, Bitmap as Drawn}
 use Rattle.plane_core.proofs.Shared.Cells.{IsSquare-empty, IsSquare-one, IsSquare-parts, put_square-inside, put_square-outside}
-use Rattle.multistate_macrocell.specs.Laws.{NodesShowTheirRoot, ShowsRoot}
-use Rattle.multistate_macrocell.specs.Quadtree.{drawn, square_named, square_of, world_of_nodes}
+use Rattle.multistate_macrocell.specs.Quadtree.{drawn, square_named, square_of}
 use Rattle.multistate_macrocell.proofs.Children.{child-earlier, child-found, child-is, child-level, follows-at}
 use Rattle.multistate_macrocell.proofs.Standing.{level_live, named-node, named-none, world-nodes-root}
 

@@ -1,14 +1,8 @@
 -- The row of a node stands for its square.
-use Rattle.std.proofs.Common.{◌≡◌, ℕ, zero, suc, ◌<◌, List, arith}
-use Rattle.macrocell_lines.specs.declared.bitmap.Bitmap.{Bitmap}
-use Rattle.macrocell_lines.specs.declared.node.Node.{Node}
-use Rattle.macrocell_lines.specs.declared.node.Node.TheVariants.{Cells, Square as Quartered, Bitmap as Drawn}
-use Rattle.macrocell_lines.specs.Nodes.{AreStates, level_of}
-use Rattle.plane_core.specs.declared.row.SquareRow.{SquareRow}
-use Rattle.plane_core.specs.Rows.{IsNumber, IsRow, kid}
-use Rattle.plane_core.proofs.Shared.Sound.{IsNumber-state, row_of, square_in-state}
-use Rattle.multistate_macrocell.specs.Quadtree.{drawn, square_of}
-use Rattle.multistate_macrocell.specs.Tables.{Adds, CanFollow, row_number, square_by, square_of_row}
+use Rattle.multistate_macrocell.proofs.Names.{Adds, AreStates, Bitmap, CanFollow, Cells, IsNumber, IsNumber-state, IsRow, List, Node, SquareRow, arith, drawn, kid, level_of, row_number, row_of, square_by, square_in-state, square_of_row}
+use Rattle.multistate_macrocell.proofs.Names.{suc, zero, ℕ, ◌<◌, ◌≡◌}
+use Rattle.macrocell_lines.specs.declared.node.Node.TheVariants.{Square as Quartered, Bitmap as Drawn}
+use Rattle.multistate_macrocell.specs.Quadtree.{square_of}
 
 state_kid : (rows : List SquareRow) (a b c d q : ℕ) → AreStates a b c d → q < 4 → IsNumber rows 0 (kid (row_of 1 a b c d) q)
 state_kid rows a b c d zero h q = IsNumber-state rows a h.nw_state

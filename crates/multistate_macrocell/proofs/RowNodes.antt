@@ -1,29 +1,15 @@
 -- Rows that are written as nodes stand for the same.
-use Rattle.std.proofs.Common.{◌≡◌, ◌∙◌, sym, ap, refl, subst, ℕ, zero, suc, ◌-◌, ◌<◌, ◌≤◌, cond, List, [], ◌∷◌, ◌++◌, length, map, take, get_or, Some, Ok, arith, append_assoc, length-append, lit<, inl, inr}
-use Rattle.std.specs.Prelude.{IsTrue, slice_get}
-use Rattle.std.proofs.lemmas.Bool.{eq-eqb, ne_eqb}
-use Rattle.std.proofs.lemmas.Bool.Decides.{eqb_tells, nat_tests}
-use Rattle.std.specs.Option.{option_map}
-use Rattle.std.proofs.lemmas.List.{length-map, map-append}
-use Rattle.std.proofs.lemmas.Option.{slice_get-get_or, slice_get-map}
+use Rattle.multistate_macrocell.proofs.Names.{AreNodes, AreQuadrants, AreRows, AreStates, Cells, EachFollows, Follows, IsNumber, IsNumber-level, IsRow, IsTrue, List, Node, Ok, Some, Square, SquareRow, WrittenMeansTheSame, [], ap}
+use Rattle.multistate_macrocell.proofs.Names.{append_assoc, arith, cond, eq-eqb, eqb_tells, four, get_or, inl, inr, is_child, kid, kid_number, length, length-append, length-map, level_of, lit<, map, map-append, nat_tests, ne_eqb, no_row}
+use Rattle.multistate_macrocell.proofs.Names.{node_of, nodes_of, option_map, refl, root_level, root_level-some, rooted, row_at, rows_of, slice_get, slice_get-get_or, slice_get-map, square_in, square_in-none, square_in-row, square_in-state}
+use Rattle.multistate_macrocell.proofs.Names.{square_named, squares-rows_of, state-IsNumber, subst, suc, sym, take, world-none, world-root, world_of_nodes, world_of_rows, zero, ℕ, ◌++◌, ◌-◌, ◌<◌, ◌∙◌, ◌∷◌, ◌≡◌, ◌≤◌}
 use Rattle.basics.specs.Results.{◌>>=◌}
-use Rattle.macrocell_lines.specs.declared.node.Node.{Node}
-use Rattle.macrocell_lines.specs.declared.node.Node.TheVariants.{Cells, Square as Quartered}
-use Rattle.macrocell_lines.specs.Nodes.{AreNodes, AreQuadrants, AreStates, EachFollows, Follows, is_child, level_of}
+use Rattle.macrocell_lines.specs.declared.node.Node.TheVariants.{Square as Quartered}
 use Rattle.macrocell_lines.proofs.Shared.WrittenTexts.{written-says}
-use Rattle.plane_core.specs.declared.row.SquareRow.{SquareRow}
-use Rattle.worlds.specs.Square.{Square, four}
-use Rattle.plane_core.specs.Rows.{AreRows, IsNumber, IsRow, kid, no_row, root_level, row_at, square_in, world_of_rows}
-use Rattle.plane_core.proofs.Shared.Roots.{root_level-some, rooted, world-none, world-root}
-use Rattle.plane_core.proofs.Shared.Sound.{IsNumber-level, kid_number, square_in-none, square_in-row, square_in-state, state-IsNumber}
-use Rattle.multistate_macrocell.specs.Laws.{WrittenMeansTheSame}
 use Rattle.multistate_macrocell.specs.Pattern.{said_pattern}
-use Rattle.multistate_macrocell.specs.PatternText.{node_of, nodes_of}
-use Rattle.multistate_macrocell.specs.Quadtree.{square_named, square_of, world_of_nodes}
+use Rattle.multistate_macrocell.specs.Quadtree.{square_of}
 use Rattle.multistate_macrocell.proofs.Children.{child-is}
 use Rattle.multistate_macrocell.proofs.Standing.{named-node, named-none, world-nodes-none, world-nodes-root}
-use Rattle.plane_core.specs.WorldRows.{rows_of}
-use Rattle.plane_core.proofs.Shared.WorldRows.{squares-rows_of}
 
 -- the node of a row, by its level
 node_of-one : (row : SquareRow) → row.level ≡ 1 → node_of row ≡ Cells (kid row 0) (kid row 1) (kid row 2) (kid row 3)

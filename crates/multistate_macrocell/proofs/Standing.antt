@@ -1,20 +1,9 @@
 -- Rows, and the numbers of the nodes among them, that stand for the first nodes.
-use Rattle.std.proofs.Common.{◌≡◌, ◌∙◌, sym, ap, refl, subst, ℕ, zero, suc, ◌-◌, ◌<◌, ◌≤◌, List, [], ◌∷◌, ◌++◌, length, take, get_or, Some, arith}
-use Rattle.std.specs.Prelude.{IsTrue, slice_get}
-use Rattle.std.proofs.lemmas.List.{get_or_append_left, get_or_push, length_push, nil_from_length}
-use Rattle.std.proofs.lemmas.Bool.{cases_lt}
-use Rattle.std.proofs.lemmas.Option.{slice_get-get_or}
-use Rattle.macrocell_lines.specs.declared.node.Node.{Node}
-use Rattle.macrocell_lines.specs.declared.node.Node.TheVariants.{Cells, Square as Quartered, Bitmap as Drawn}
-use Rattle.macrocell_lines.specs.Nodes.{AreNodes, AreQuadrants, Follows, is_child, level_of}
-use Rattle.worlds.specs.World.{blank}
-use Rattle.plane_core.specs.declared.row.SquareRow.{SquareRow}
-use Rattle.worlds.specs.Square.{empty_square}
-use Rattle.plane_core.specs.Rows.{AreRows, IsNumber, root_level, square_in, world_of_rows}
-use Rattle.plane_core.proofs.Shared.Roots.{world-none, world-root}
-use Rattle.plane_core.proofs.Shared.Sound.{AreRows-none, IsNumber-from, IsNumber-grown, square_in-grown, square_in-none}
-use Rattle.multistate_macrocell.specs.Quadtree.{square_named, square_of, world_of_nodes, world_of_root}
-use Rattle.multistate_macrocell.specs.Tables.{Adds, AreKnown, CanFollow, IsKnown, row_number, square_by}
+use Rattle.multistate_macrocell.proofs.Names.{Adds, AreKnown, AreNodes, AreQuadrants, AreRows, AreRows-none, CanFollow, Cells, Follows, IsKnown, IsNumber, IsNumber-from, IsNumber-grown, IsTrue, List, Node, Some, SquareRow, [], ap, arith}
+use Rattle.multistate_macrocell.proofs.Names.{blank, cases_lt, empty_square, get_or, get_or_append_left, get_or_push, is_child, length, length_push, level_of, nil_from_length, refl, root_level, row_number, slice_get, slice_get-get_or}
+use Rattle.multistate_macrocell.proofs.Names.{square_by, square_in, square_in-grown, square_in-none, subst, suc, sym, take, world-none, world-root, world_of_root, world_of_rows, zero, ℕ, ◌++◌, ◌-◌, ◌<◌, ◌∙◌, ◌∷◌, ◌≡◌, ◌≤◌}
+use Rattle.macrocell_lines.specs.declared.node.Node.TheVariants.{Square as Quartered, Bitmap as Drawn}
+use Rattle.multistate_macrocell.specs.Quadtree.{square_named, square_of, world_of_nodes}
 use Rattle.multistate_macrocell.proofs.Adding.{adds-grows}
 use Rattle.multistate_macrocell.proofs.Children.{child-earlier, child-is, child-level, follows-at}
 

@@ -1,13 +1,8 @@
 -- Texts of rows, piece by piece.
-use Rattle.std.proofs.Common.{◌≡◌, ◌∙◌, sym, ap, refl, ℕ, ◌==◌, Bool, true, cond, List, [], ◌∷◌, ◌++◌, map, append_assoc, decimal, arith}
-use Rattle.std.specs.Prelude.{codes, is_ok, OnOk, Result}
-use Rattle.std.proofs.lemmas.Bool.{eqb-true}
-use Rattle.plane_core.specs.declared.row.SquareRow.{SquareRow}
-use Rattle.plane_core.specs.Rows.{kid}
-use Rattle.macrocell_lines.specs.declared.node.Node.TheVariants.{Cells, Square as Quartered}
-use Rattle.macrocell_lines.specs.WrittenText.{node_line, numbers_line, text_of_lines, written_text}
-use Rattle.multistate_macrocell.specs.Lines.{heading_text, row_line, row_lines}
-use Rattle.multistate_macrocell.specs.PatternText.{node_of, nodes_of}
+use Rattle.multistate_macrocell.proofs.Names.{Bool, Cells, List, OnOk, Result, SquareRow, [], ap, append_assoc, arith, codes, cond, decimal, eqb-true, heading_text, is_ok, kid, map, node_line, node_of, nodes_of, numbers_line, refl}
+use Rattle.multistate_macrocell.proofs.Names.{row_lines, sym, text_of_lines, true, written_text, ℕ, ◌++◌, ◌==◌, ◌∙◌, ◌∷◌, ◌≡◌}
+use Rattle.macrocell_lines.specs.declared.node.Node.TheVariants.{Square as Quartered}
+use Rattle.multistate_macrocell.specs.Lines.{row_line}
 
 -- the lines before the rows
 apart : (a name b number c rest : List ℕ) → (a ++ name ++ b ++ number ++ c) ++ rest ≡ a ++ (name ++ (b ++ (number ++ (c ++ rest))))

@@ -1,16 +1,7 @@
 -- The faults of a body, wherever its pattern lies.
-use Rattle.std.proofs.Common.{arith}
-use Rattle.std.proofs.Common.{◌≡◌, ◌≢◌, ◌⊎◌, ◌∙◌, ℕ, Bool, true, false, cond, List, [], ◌∷◌, Result, Ok, Err, nat_lt, refl, sym, ap, inl, inr, IsOk}
-use Rattle.std.specs.List.{flat_map, list_all}
-use Rattle.basics.specs.Results.{◌>>=◌}
-use Rattle.worlds.specs.Lay.{lay}
-use Rattle.worlds.specs.World.{World, blank}
-use Rattle.multistate_rle.specs.declared.comment.Origin.{Origin}
-use Rattle.multistate_rle.specs.declared.fault.RleFault.{RleFault}
-use Rattle.multistate_rle.specs.declared.fault.RleFault.TheVariants.{TooManyLive, CellOutOfRange, NoMemory}
-use Rattle.multistate_rle.specs.declared.symbol.Symbol.{Symbol}
-use Rattle.multistate_rle.specs.declared.symbol.Symbol.TheVariants.{Digit, Cell, RowEnd, End, Unknown}
-use Rattle.multistate_rle.specs.Pattern.{HasNoFaultAnywhere, IsFaultAnywhere, Run, Strip, cells_of, drawn_by, lies_inside, live_count, onto, runs_from, strips_from, unplaced, world_of}
+use Rattle.multistate_rle.proofs.Names.{Bool, Cell, CellOutOfRange, Digit, End, Err, HasNoFaultAnywhere, IsFaultAnywhere, IsOk, List, NoMemory, Ok, Origin, Result, RleFault, RowEnd, Run, Strip, Symbol, TooManyLive, Unknown, World, [], ap}
+use Rattle.multistate_rle.proofs.Names.{arith, blank, cells_of, cond, drawn_by, false, flat_map, inl, inr, lay, lies_inside, list_all, live_count, nat_lt, onto, refl, runs_from, strips_from, sym, true, unplaced, world_of, ℕ, ◌>>=◌, ◌∙◌}
+use Rattle.multistate_rle.proofs.Names.{◌∷◌, ◌≡◌, ◌≢◌, ◌⊎◌}
 
 -- a fault in which no place has a part
 abbrev IsUnplaced : RleFault → Type 0

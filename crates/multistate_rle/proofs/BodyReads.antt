@@ -1,23 +1,13 @@
 -- A written body reads back: its bytes give the runs of its tokens.
-use Rattle.std.proofs.Common.{◌≡◌, ◌∙◌, sym, ap, subst, refl, ℕ, zero, suc, ◌+◌, ◌-◌, ◌*◌, ◌/◌, ◌%◌, ◌<◌, ◌≤◌, ◌^◌, ◌==◌, true, false, cond, List, [], ◌∷◌, ◌++◌, length, map, max, arith, decimal, append_assoc, Result, Ok, nat_le, codes}
-use Rattle.std.specs.List.{AllByRecursion}
+use Rattle.multistate_rle.proofs.Names.{AllByRecursion, Cells, IsDigit, IsVisible, List, Ok, Result, RleFault, RowEnds, Run, Symbol, Token, [], ap, append_assoc, arith, codes, cond, count_text, decimal, decimal-bytes, decimal-value, false}
+use Rattle.multistate_rle.proofs.Names.{is_passed, is_prefix, length, map, max, multi_state_text, nat_le, nat_tests, onto, packed, plain_symbol, prefix_text, prefixed_state, prefixed_symbol, refl, runs_from, solid_from, state_text, subst}
+use Rattle.multistate_rle.proofs.Names.{suc, sym, symbols, token_text, true, two_state_text, zero, ℕ, ◌%◌, ◌*◌, ◌++◌, ◌+◌, ◌-◌, ◌/◌, ◌<◌, ◌==◌, ◌^◌, ◌∙◌, ◌∷◌, ◌≡◌, ◌≤◌}
 use Rattle.std.specs.Char.{digit_value}
 use Rattle.std.specs.Str.Parse.{digits_value_after}
-use Rattle.std.proofs.lemmas.Bool.Decides.{nat_tests}
 use Rattle.std.proofs.lemmas.Str.{digit_value_digit}
-use Rattle.multistate_rle.specs.declared.fault.RleFault.{RleFault}
 use Rattle.multistate_rle.specs.declared.solid.ByteAt.{ByteAt}
-use Rattle.multistate_rle.specs.declared.symbol.Symbol.{Symbol}
 use Rattle.multistate_rle.specs.declared.symbol.Symbol.TheVariants as symbol
-use Rattle.multistate_rle.specs.declared.token.Token.{Token}
 use Rattle.multistate_rle.specs.declared.token.Token.TheVariants as token
-use Rattle.multistate_rle.specs.Pattern.{Run, runs_from, onto}
-use Rattle.multistate_rle.specs.Pattern.Run.{Cells, RowEnds}
-use Rattle.multistate_rle.specs.PatternText.{packed}
-use Rattle.multistate_rle.specs.Symbols.{is_passed, is_prefix, plain_symbol, prefixed_state, prefixed_symbol, solid_from, symbols}
-use Rattle.multistate_rle.specs.Token.{count_text, two_state_text, prefix_text, multi_state_text, state_text, token_text}
-use Rattle.text_lines.proofs.Shared.ByteRanges.{IsDigit, IsVisible}
-use Rattle.text_lines.proofs.Shared.Decimals.{decimal-bytes, decimal-value}
 
 -- bytes behind digits that write n give these runs, wherever they stand
 abbrev pub ReadsAs : ℕ → List ℕ → Result (List Run) RleFault → Type 0

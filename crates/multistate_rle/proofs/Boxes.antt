@@ -1,15 +1,7 @@
 -- The bounding box of a world is the box of its live cells.
-use Rattle.std.proofs.Common.{◌≡◌, ◌∙◌, ap, refl, sym, subst, ℕ, ◌<◌, ◌≤◌, ◌^◌, Bool, cond, List, [], ◌∷◌, map, Option, None, Some, ℤ, pos, arith, neg_ℤ, ◌≤ℤ◌}
-use Rattle.std.specs.Prelude.{MatchOption}
-use Rattle.std.specs.List.{AllByRecursion}
-use Rattle.std.proofs.lemmas.Int.{ints}
-use Rattle.worlds.specs.World.{World, Place, cell, blank, cell-blank, entries-blank, same_world}
-use Rattle.worlds.specs.Live.{live, live-entries, as_live, state_at, cell-state_at, live-states, by_place}
-use Rattle.worlds.specs.Range.{HasMargin, IsBoundingBox, IsInBox}
+use Rattle.multistate_rle.proofs.Names.{AllByRecursion, Bool, Frame, HasMargin, IsBoundingBox, IsInBox, List, MatchOption, None, Option, Place, Some, World, [], ap, arith, as_live, blank, box_of, box_with, by_place, cell, cell-blank}
+use Rattle.multistate_rle.proofs.Names.{cell-state_at, cond, distance, entries-blank, frame_of, grown, ints, live, live-entries, live-states, map, neg_ℤ, pos, refl, same_world, state_at, subst, sym, ℕ, ℤ, ◌<◌, ◌^◌, ◌∙◌, ◌∷◌, ◌≡◌, ◌≤ℤ◌, ◌≤◌}
 use Rattle.worlds.specs.declared.cell.Bounds.{Bounds}
-use Rattle.multistate_rle.specs.declared.frame.Frame.{Frame}
-use Rattle.multistate_rle.specs.Frame.{box_of, box_with, frame_of, grown}
-use Rattle.multistate_rle.specs.Token.{distance}
 use Rattle.multistate_rle.proofs.HeadReads.{IsCoordinate}
 
 -- each edge of the box touches a live cell

@@ -1,22 +1,9 @@
 -- A drawing of the runs that were read: at its end it tells what their strips tell.
-use Rattle.std.proofs.lemmas.Bool.Decides.{nat_tests}
-use Rattle.std.proofs.Common.{◌≡◌, ℕ, ◌+◌, ◌*◌, ◌≤◌, ◌==◌, ◌&&◌, true, cond, max, pos, ◌+ℤ◌, List, [], ◌∷◌, ◌++◌, Result, Ok, Err, nat_le, refl, sym, ap, ap₂, ◌∙◌, arith, tests, append_assoc, append-nil, IsOk}
-use Rattle.std.specs.List.{flat_map, list_all}
-use Rattle.std.proofs.lemmas.Bool.{and_parts, cond-true}
-use Rattle.std.proofs.lemmas.List.{flat_map_more}
+use Rattle.multistate_rle.proofs.Names.{Cell, Cells, Digit, Drawn, Err, Gives, IsLike, IsOk, List, NoMemory, Ok, Origin, Result, RleFault, RowEnd, RowEnds, Run, Strip, Symbol, WantsAlone, World, [], after_cells, after_rows, and_parts, ap}
+use Rattle.multistate_rle.proofs.Names.{append-nil, append_assoc, ap₂, arith, capped, cells_of, cond, cond-true, drawn_by, flat_map, flat_map_more, is_in_range, lies_inside, list_all, live_count, max, nat_le, nat_tests, onto, pos, refl}
+use Rattle.multistate_rle.proofs.Names.{runs_from, strip_at, strips_from, sum_by_push, sym, tests, true, undrawn, with_strip, world_drawn, world_of, ℕ, ◌&&◌, ◌*◌, ◌++◌, ◌+ℤ◌, ◌+◌, ◌==◌, ◌>>=◌, ◌∙◌, ◌∷◌, ◌≡◌, ◌≤◌}
 use Rattle.std.proofs.lemmas.List.Folds.{list_all-append}
-use Rattle.std.proofs.lemmas.List.Sums.{sum_by_push}
 use Rattle.std.proofs.Math.Bool.{and-true}
-use Rattle.worlds.specs.World.{World}
-use Rattle.basics.specs.Results.{◌>>=◌, Gives}
-use Rattle.multistate_rle.specs.declared.comment.Origin.{Origin}
-use Rattle.multistate_rle.specs.declared.fault.RleFault.{RleFault}
-use Rattle.multistate_rle.specs.declared.fault.RleFault.TheVariants.{NoMemory}
-use Rattle.multistate_rle.specs.declared.symbol.Symbol.{Symbol}
-use Rattle.multistate_rle.specs.declared.symbol.Symbol.TheVariants.{Digit, Cell, RowEnd}
-use Rattle.multistate_rle.specs.Pattern.{Run, Strip, onto, runs_from, strips_from, live_count, is_in_range, lies_inside, cells_of, world_of, drawn_by}
-use Rattle.multistate_rle.specs.Pattern.Run.{Cells, RowEnds}
-use Rattle.multistate_rle.specs.Drawing.{Drawn, IsLike, WantsAlone, capped, strip_at, with_strip, after_cells, after_rows, undrawn, world_drawn}
 use Rattle.multistate_rle.proofs.Strips.{IsPlaced, lies_inside-alike, capped-in_range}
 
 -- where the next run begins, behind these strips

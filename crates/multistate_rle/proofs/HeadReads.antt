@@ -1,25 +1,12 @@
 -- The two lines before a written body read back: the comment gives the place and the generation, the header the name.
-use Rattle.std.proofs.Common.{None, ◌≡◌, ◌∙◌, ap, refl, ℕ, suc, ◌-◌, ◌^◌, ◌<◌, ◌≤◌, ◌==◌, Bool, true, false, not, min, ℤ, pos, List, [], ◌∷◌, ◌++◌, length, arith, Some, decimal, append-nil, negsuc, neg_ℤ, ◌≤ℤ◌, ◌<ℤ◌, codes, fold, Ok, bytes_eq}
-use Rattle.std.specs.Fmt.{signed_decimal}
-use Rattle.std.specs.List.{All, AllByRecursion, list_all}
-use Rattle.std.proofs.lemmas.Grind.{fold-append}
-use Rattle.std.proofs.lemmas.Int.{ints}
-use Rattle.std.proofs.lemmas.List.Elements.{All-from_recursion}
+use Rattle.multistate_rle.proofs.Names.{All, All-from_recursion, AllByRecursion, Bool, IsDigit, IsLine, IsName, IsNameByte, IsPrinted, IsVisible, List, None, Ok, Some, [], after_comment, after_part, all_append, all_so, all_tested, ap}
+use Rattle.multistate_rle.proofs.Names.{append-nil, arith, bytes_eq, codes, coordinate_of, cut_at, decimal, decimal-bytes, decimal-some, differs, drop-append-add, ends-append, ends-behind, ends-visible, false, fold, fold-append}
+use Rattle.multistate_rle.proofs.Names.{generation_in, ints, is_blank, is_printed, is_sign, is_visible, length, list_all, min, name-visible, name_after_width, nat_tests, neg_ℤ, negsuc, not, not-true, number_of-decimal, or_from, parts}
+use Rattle.multistate_rle.proofs.Names.{place_in, plain_origin, pos, printed-tested, refl, rule_name, signed_decimal, signed_of, size_in, suc, take-append_seam, tight, trim, trim-blank, true, value_in, visible-printed, visible-solid}
+use Rattle.multistate_rle.proofs.Names.{visible-tested, ℕ, ℤ, ◌++◌, ◌-◌, ◌<ℤ◌, ◌<◌, ◌==◌, ◌^◌, ◌∙◌, ◌∷◌, ◌≡◌, ◌≤ℤ◌, ◌≤◌}
 use Rattle.std.proofs.lemmas.List.Splits.{slice_split_at, slice_split_none}
-use Rattle.std.proofs.Math.Seq.{take-append_seam, drop-append-add}
-use Rattle.std.proofs.lemmas.Bool.{not-true, or_from}
-use Rattle.std.proofs.lemmas.Bool.Decides.{nat_tests}
 use Rattle.text_lines.proofs.Shared.Pieces.{position-at, position-none}
-use Rattle.basics.proofs.Shared.Lists.{all_append, all_so}
-use Rattle.text_lines.specs.Blanks.{is_blank, trim}
 use Rattle.text_lines.specs.Numbers.{number_of}
-use Rattle.text_lines.specs.RuleNames.{IsName, IsNameByte}
-use Rattle.text_lines.proofs.Shared.ByteRanges.{all_tested, IsDigit, IsPrinted, IsVisible, is_printed, is_visible, differs, printed-tested, visible-printed, visible-solid, visible-tested}
-use Rattle.text_lines.proofs.Shared.Decimals.{decimal-bytes, decimal-some, number_of-decimal}
-use Rattle.text_lines.proofs.Shared.PrintedLines.{IsLine, ends-append, ends-behind, ends-visible, name-visible, trim-blank}
-use Rattle.multistate_rle.specs.Comments.{is_sign, tight, parts, signed_of, coordinate_of, place_in, generation_in, plain_origin, after_part, after_comment}
-use Rattle.multistate_rle.specs.Cut.{cut_at}
-use Rattle.multistate_rle.specs.Header.{value_in, size_in, name_after_width, rule_name}
 
 -- a byte that isn't this one
 abbrev IsOther : ℕ → ℕ → Type 0

@@ -8,3 +8,4 @@ pub mod PatternReads
 pub mod Runs
 pub mod StripCells
 mod Strips
+pub mod Names

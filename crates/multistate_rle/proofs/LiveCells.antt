@@ -1,26 +1,15 @@
 -- The live cells of a world: their order, their tokens, and the world that they make.
-use Rattle.std.proofs.lemmas.Int.{ints}
-use Rattle.std.proofs.Common.{◌≡◌, ◌∙◌, sym, ap, subst, refl, ℕ, ◌+◌, ◌-◌, ◌<◌, ◌≤◌, ◌^◌, ℤ, pos, ◌+ℤ◌, List, [], ◌∷◌, length, map, arith, None, T, inl, inr, ◌⊎◌, ◌≤ℤ◌, ◌<ℤ◌, unwrap_or, Ordering}
+use Rattle.multistate_rle.proofs.Names.{All, All-from_recursion, AllByRecursion, HasMargin, IsInside, List, None, Ordering, Place, T, Token, World, [], all_append, all_so, ap, arith, as_live, behind, blank, by_lt_z, cell, cell-blank}
+use Rattle.multistate_rle.proofs.Names.{cell-lay, cell-state_at, distance, first, inl, inr, ints, joined, last_mention, lay, length, live, live-entries, live-states, map, nat_tests, of_cell, place_cmp, pos, refl, same_place, same_world}
+use Rattle.multistate_rle.proofs.Names.{second, subst, sym, tokens, unwrap_or, way, way_by, zeros, ℕ, ℤ, ◌+ℤ◌, ◌+◌, ◌-◌, ◌<ℤ◌, ◌<◌, ◌^◌, ◌∙◌, ◌∷◌, ◌≡◌, ◌≤ℤ◌, ◌≤◌, ◌⊎◌}
 use Rattle.std.specs.Ordering.{MatchOrdering, ordering_then, is_lt}
 use Rattle.std.specs.Cmp.{int_ranks}
-use Rattle.std.specs.List.{All, AllByRecursion}
 use Rattle.std.specs.Map.{lookup}
 use Rattle.std.specs.FinMap as map
 use Rattle.std.specs.FinMap.Entries.{is_sorted}
-use Rattle.std.proofs.lemmas.Int.{ints, by_lt_z}
-use Rattle.std.proofs.lemmas.List.Elements.{All-from_recursion}
-use Rattle.std.proofs.lemmas.Bool.Decides.{nat_tests}
-use Rattle.basics.proofs.Shared.Lists.{all_append, all_so}
-use Rattle.basics.proofs.Shared.Tests.{first, second}
-use Rattle.worlds.specs.World.{World, Place, place_cmp, same_place, cell, blank, cell-blank, same_world}
-use Rattle.worlds.specs.Live.{live, live-entries, as_live, cell-state_at, live-states, of_cell}
-use Rattle.worlds.specs.Lay.{lay, last_mention, cell-lay}
 use Rattle.worlds.specs.Fill.{same_is}
-use Rattle.worlds.specs.Range.{IsInside, HasMargin}
 use Rattle.worlds.specs.declared.cell.Cell.{Cell}
-use Rattle.multistate_rle.specs.declared.token.Token.{Token}
 use Rattle.multistate_rle.specs.Listed.{IsListed}
-use Rattle.multistate_rle.specs.Token.{distance, zeros, way_by, way, joined, tokens, behind}
 use Rattle.multistate_rle.proofs.BodyReads.{IsWritable}
 use Rattle.multistate_rle.proofs.Boxes.{IsNear, distance-near}
 use Rattle.multistate_rle.proofs.StripCells.{set_of, IsAhead, AreAhead}

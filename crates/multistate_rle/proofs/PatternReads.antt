@@ -1,39 +1,11 @@
 -- A written pattern reads back whole.
-use Rattle.std.proofs.Common.{◌≡◌, ◌∙◌, sym, ap, ap₂, subst, refl, ℕ, ◌+◌, ◌<◌, ◌≤◌, ◌^◌, ◌==◌, true, false, cond, ℤ, List, [], ◌∷◌, ◌++◌, length, map, drop, arith, decimal, append_assoc, nat_lt, codes, Ok, Err, length-append}
-use Rattle.std.specs.Fmt.{signed_decimal}
-use Rattle.std.specs.List.{AllByRecursion, list_all}
-use Rattle.std.proofs.lemmas.Bool.{or_from, or_right}
-use Rattle.std.proofs.lemmas.Bool.Decides.{nat_tests}
-use Rattle.std.proofs.lemmas.Int.{ints}
-use Rattle.std.proofs.lemmas.List.{length-map}
-use Rattle.std.proofs.Math.Seq.{drop-append_seam}
-use Rattle.worlds.specs.World.{World, Place, blank}
-use Rattle.worlds.specs.Live.{live, live-states}
-use Rattle.worlds.specs.Lay.{lay}
-use Rattle.text_lines.specs.Blanks.{trim}
-use Rattle.text_lines.specs.Lines.{Line, lines, lines_from, full_line, strip_carriage_return}
-use Rattle.text_lines.specs.Lines.End.{Ended}
-use Rattle.text_lines.specs.RuleNames.{IsName}
-use Rattle.basics.specs.Results.{◌>>=◌}
-use Rattle.multistate_rle.specs.declared.comment.Origin.{Origin}
-use Rattle.multistate_rle.specs.declared.fault.RleFault.TheVariants.{TooManyLive, CellOutOfRange}
-use Rattle.multistate_rle.specs.declared.frame.Frame.{Frame}
-use Rattle.multistate_rle.specs.declared.token.Token.{Token}
-use Rattle.multistate_rle.specs.Comments.{plain_origin, after_comment}
-use Rattle.multistate_rle.specs.Cut.{begins_with}
-use Rattle.multistate_rle.specs.Frame.{box_of, frame_of}
-use Rattle.multistate_rle.specs.Head.{head_from}
-use Rattle.multistate_rle.specs.Header.{rule_name}
+use Rattle.multistate_rle.proofs.Names.{AllByRecursion, CellOutOfRange, Ended, Err, Frame, IsLine, IsName, Line, List, Ok, Origin, Place, Strip, Token, TooManyLive, World, [], after_comment, all_so, ap, append_assoc, ap₂, arith}
+use Rattle.multistate_rle.proofs.Names.{begins_with, blank, box_of, codes, cond, decimal, differs, drawn_by, drop, drop-append_seam, false, frame_of, framed_text, full_line, head_from, ints, lay, length, length-append, length-map}
+use Rattle.multistate_rle.proofs.Names.{lies_inside, lines, lines_from, list_all, live, live-states, live_count, map, nat_lt, nat_tests, or_from, or_right, packed, pattern_of, plain_origin, printed-one, refl, rule_name, signed_decimal}
+use Rattle.multistate_rle.proofs.Names.{solid_from, strip-printed, strip_carriage_return, strips_from, subst, sym, symbols, token_text, tokens, trim, true, world_of, ℕ, ℤ, ◌++◌, ◌+◌, ◌<◌, ◌==◌, ◌>>=◌, ◌^◌, ◌∙◌, ◌∷◌, ◌≡◌, ◌≤◌}
 use Rattle.multistate_rle.specs.Laws.{CanBeWritten, WrittenMeansTheSame}
-use Rattle.multistate_rle.specs.Pattern.{Strip, strips_from, live_count, lies_inside, world_of, drawn_by, pattern_of}
-use Rattle.multistate_rle.specs.PatternText.{packed, framed_text}
-use Rattle.multistate_rle.specs.Symbols.{solid_from, symbols}
-use Rattle.multistate_rle.specs.Token.{tokens, token_text}
 use Rattle.multistate_rle.proofs.BodyReads.{IsWritable, runs_of, packed-reads}
-use Rattle.text_lines.proofs.Shared.ByteRanges.{differs}
-use Rattle.basics.proofs.Shared.Lists.{all_so}
 use Rattle.text_lines.proofs.Shared.LineEnds.{line-first}
-use Rattle.text_lines.proofs.Shared.PrintedLines.{IsLine, printed-one, strip-printed}
 use Rattle.multistate_rle.proofs.HeadReads.{IsCoordinate, comment_line, comment-reads, header_line, header-reads, comment-is_line, header-is_line}
 use Rattle.multistate_rle.proofs.Boxes.{FrameFits, frame-fits}
 use Rattle.multistate_rle.proofs.LiveCells.{IsCellOf, lay-live, live-ahead, tokens-writable}

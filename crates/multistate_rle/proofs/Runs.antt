@@ -1,15 +1,9 @@
 -- Tokens of cells that come one by one.
-use Rattle.std.proofs.Common.{◌≡◌, ap, ℕ, ◌+◌, ◌≤◌, List, [], ◌∷◌, ◌++◌, ℤ, pos, ◌+ℤ◌, ◌-ℤ◌, arith, map, length, drop, unsigned_abs, drop_of_length-le}
-use Rattle.std.proofs.lemmas.Bool.Decides.{nat_tests}
-use Rattle.std.proofs.lemmas.Int.{ints}
-use Rattle.worlds.specs.World.{Place}
-use Rattle.worlds.specs.Live.{of_cell, place_of}
+use Rattle.multistate_rle.proofs.Names.{List, Place, Token, [], ap, arith, behind, distance, drop, drop_of_length-le, ints, joined, length, map, nat_tests, of_cell, place_of, pos, tokens, tokens_on, unsigned_abs, way, way_by, zeros, ℕ, ℤ}
+use Rattle.multistate_rle.proofs.Names.{◌++◌, ◌+ℤ◌, ◌+◌, ◌-ℤ◌, ◌∷◌, ◌≡◌, ◌≤◌}
 use Rattle.worlds.specs.declared.cell.Cell.{Cell}
-use Rattle.multistate_rle.specs.declared.token.Token.{Token}
 use Rattle.multistate_rle.specs.declared.token.Token.TheVariants.{Run, RowEnds}
 use Rattle.multistate_rle.specs.declared.open_run.OpenRun.{OpenRun}
-use Rattle.multistate_rle.specs.Token.{distance, zeros, way_by, way, joined, tokens, behind}
-use Rattle.multistate_rle.specs.Writing.{tokens_on}
 
 -- the way to another row
 pub way_rows : (n : ℕ) (left : ℤ) (from to : Place) → (n ≡ 0 → ⊥) → way_by n left from to ≡ RowEnds n ∷ zeros (distance left to.1)

@@ -1,21 +1,10 @@
 -- The strips that tokens draw, as cells: those that the tokens were made of.
-use Rattle.std.proofs.Common.{◌≡◌, ◌∙◌, ap, ap₂, subst, refl, ℕ, suc, ◌+◌, ◌-◌, ◌<◌, ◌^◌, true, ℤ, pos, ◌+ℤ◌, List, [], ◌∷◌, ◌++◌, length, map, arith, ⊎_elim, ◌⊎◌, neg_ℤ, ◌≤ℤ◌, ◌<ℤ◌, length-append}
-use Rattle.std.specs.List.{AllByRecursion, flat_map, list_all, range_with_len}
-use Rattle.std.proofs.lemmas.Int.{ints}
-use Rattle.std.proofs.lemmas.List.Elements.{All-from_recursion}
+use Rattle.multistate_rle.proofs.Names.{All-from_recursion, AllByRecursion, CellSet, IsInside, List, Origin, Place, Strip, Token, [], ap, ap₂, arith, behind, cell_at, cells_of, differs, distance, flat_map, ints, is_in_range, joined, length}
+use Rattle.multistate_rle.proofs.Names.{length-append, lies_inside, list_all, live_count, map, nat_tests, neg_ℤ, pos, range_with_len, refl, strips_from, subst, suc, sum_by-cons, tokens, true, way, zeros, ℕ, ℤ, ⊎_elim, ◌++◌, ◌+ℤ◌, ◌+◌, ◌-◌}
+use Rattle.multistate_rle.proofs.Names.{◌<ℤ◌, ◌<◌, ◌^◌, ◌∙◌, ◌∷◌, ◌≡◌, ◌≤ℤ◌, ◌⊎◌}
 use Rattle.std.proofs.lemmas.List.FromFn.{fill_by_all, get_or-map-range_with_len, length-map-range_with_len}
-use Rattle.std.proofs.lemmas.List.Sums.{sum_by-cons}
-use Rattle.std.proofs.lemmas.Bool.Decides.{nat_tests}
-use Rattle.worlds.specs.World.{Place}
-use Rattle.worlds.specs.declared.cell.CellSet.{CellSet}
-use Rattle.worlds.specs.Range.{IsInside}
-use Rattle.multistate_rle.specs.declared.comment.Origin.{Origin}
-use Rattle.multistate_rle.specs.declared.token.Token.{Token}
 use Rattle.multistate_rle.specs.declared.token.Token.TheVariants as token
-use Rattle.multistate_rle.specs.Pattern.{Strip, strips_from, live_count, is_in_range, lies_inside, cell_at, cells_of}
-use Rattle.multistate_rle.specs.Token.{distance, zeros, way, joined, tokens, behind}
 use Rattle.multistate_rle.proofs.BodyReads.{IsWritable, runs_of}
-use Rattle.text_lines.proofs.Shared.ByteRanges.{differs}
 use Rattle.multistate_rle.proofs.Runs.{way_rows}
 use Rattle.multistate_rle.proofs.Strips.{same_cell}
 

@@ -1,17 +1,8 @@
 -- Strips of cells: where they lie, also by numbers that stand at 2^64 - 1 where they are greater, and their cells one after another.
-use Rattle.std.proofs.lemmas.Bool.Decides.{nat_tests}
-use Rattle.std.proofs.Common.{◌≡◌, ℕ, ◌+◌, ◌-◌, ◌^◌, ◌≤◌, true, false, min, refl, ℤ, pos, ◌+ℤ◌, List, [], ◌∷◌, ◌++◌, arith, int_le, int_lt, neg_ℤ, ◌≤ℤ◌, ◌<ℤ◌, w64, SFits}
-use Rattle.std.proofs.lemmas.Bool.{and_parts, and_right, both_ways, cases_lt}
-use Rattle.std.proofs.lemmas.Int.{ints}
-use Rattle.std.proofs.lemmas.Grind.{flat_map-append}
+use Rattle.multistate_rle.proofs.Names.{CellSet, IsInside, List, Origin, SFits, Strip, [], and_parts, and_right, arith, both_ways, capped, cases_lt, cells_of, cells_of_span, cells_of_spans, false, flat_map-append, int_le, int_lt, ints}
+use Rattle.multistate_rle.proofs.Names.{is_in_range, lies_inside, min, nat_tests, neg_ℤ, pos, refl, true, w64, ℕ, ℤ, ◌++◌, ◌+ℤ◌, ◌+◌, ◌-◌, ◌<ℤ◌, ◌^◌, ◌∷◌, ◌≡◌, ◌≤ℤ◌, ◌≤◌}
 use Rattle.std.proofs.lemmas.List.{append-nil}
 use Rattle.plane_core.specs.declared.span.Span.{Span}
-use Rattle.plane_core.specs.Spans.{cells_of_span, cells_of_spans}
-use Rattle.worlds.specs.declared.cell.CellSet.{CellSet}
-use Rattle.worlds.specs.Range.{IsInside}
-use Rattle.multistate_rle.specs.declared.comment.Origin.{Origin}
-use Rattle.multistate_rle.specs.Pattern.{Strip, is_in_range, lies_inside, cells_of}
-use Rattle.multistate_rle.specs.Drawing.{capped}
 
 -- the place of an origin has 64 bits
 pub record IsPlaced (origin : Origin) : Type 0 where

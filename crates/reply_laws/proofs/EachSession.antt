@@ -1,20 +1,8 @@
 -- What is written in each session of a script makes its document anew.
-use Rattle.std.proofs.Common.{◌<◌, ◌==◌, not, List, [], ◌∷◌, length, arith}
-use Rattle.std.specs.List.{AllByRecursion}
-use Rattle.basics.proofs.Shared.Lists.{all_append, all_so}
-use Rattle.text_lines.specs.Lines.{Ended, lines_until}
-use Rattle.schedule.specs.declared.document.Intervention.{Intervention}
-use Rattle.schedule.specs.Asked.{Asked, Insert, Change, RemoveIntervention}
-use Rattle.schedule.specs.Change.{acting, changed, next_intervention}
-use Rattle.schedule.specs.Plan.{Plan, opening}
-use Rattle.schedule.proofs.Shared.Changed.{HasStates}
+use Rattle.reply_laws.proofs.Names.{AllByRecursion, Asked, Between, Change, Ended, Fits, HasStates, HasText, Insert, Intervention, IsMadeAnew, IsWrittenDistance, LineFits, List, Plan, RemoveIntervention, Session, SetsSome}
+use Rattle.reply_laws.proofs.Names.{WhateverIsScriptedIsMadeAnew, [], acting, all_append, all_so, arith, asks, asks-fit, changed, length, lines_until, next_intervention, not, opening, opening_session, sessions, ◌<◌, ◌==◌, ◌∷◌}
 use Rattle.schedule.proofs.Shared.Ids.{each_filter, each_map}
 use Rattle.document_replay.proofs.Shared.Made.{IsNumbered, made, numbered_opening, numbered_step, rows_few}
-use Rattle.desk_script.specs.Asks.{Between, asks}
-use Rattle.desk_script.specs.ReadsBack.{IsWrittenDistance}
-use Rattle.desk_script.proofs.Shared.Said.{Fits, LineFits, SetsSome, asks-fit}
-use Rattle.desk_server.specs.Answer.{Session, opening_session}
-use Rattle.reply_laws.specs.Anew.{HasText, IsMadeAnew, WhateverIsScriptedIsMadeAnew, sessions}
 use Rattle.reply_laws.proofs.OneLine.{KeepsLimits, Stays, answer-keeps, each-line}
 use Rattle.reply_laws.proofs.OneLine.{limits-stay, opening-keeps}
 use Rattle.reply_laws.proofs.Remade.{scripts_anew}

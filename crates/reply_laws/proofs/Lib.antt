@@ -5,3 +5,4 @@ pub mod Written
 pub mod Remade
 pub mod RuleTexts
 pub mod EachSession
+pub mod Names

@@ -1,38 +1,14 @@
 -- What stays of a document while a script is answered.
-use Rattle.std.proofs.Common.{◌≡◌, ℕ, ◌<◌, List, [], ◌∷◌, ◌++◌, Bool, false, cond, codes, Option, Some, None, Result, Ok, refl, arith}
-use Rattle.std.proofs.lemmas.Bool.Decides.{nat_tests}
-use Rattle.std.specs.List.{AllByRecursion}
-use Rattle.basics.proofs.Shared.Lists.{all_so}
-use Rattle.text_lines.specs.Lines.{Ended, Line, lines_until}
-use Rattle.script_lines.specs.Words.{words}
+use Rattle.reply_laws.proofs.Names.{AddsNone, After, AllByRecursion, Ask, Asked, Between, Bookmark, Bool, Branch, Changed, Ended, Fault, Fits, Format, HasStates, Intervention, IsPlaced, IsSound, Line, LineFits, List, Loaded, None, Ok}
+use Rattle.reply_laws.proofs.Names.{Option, Plan, ReplaceRule, ReplaceStart, Result, Session, Shortage, Some, World, [], accepted, adds_branch, afters, all_so, answer, arith, asks, asks-fit, blank, changed, codes, cond, documents_of}
+use Rattle.reply_laws.proofs.Names.{documents_with, edited, false, first_of, first_shortage, id_word, later_shortages, lines_until, nat_tests, of_edit, of_macrocell, of_pattern, of_rule, opening, opening_session, pattern_of, refl, refusal}
+use Rattle.reply_laws.proofs.Names.{rule_of, session_after, some_changed, sound_changed, started, states_of, states_of-still, still, taken, unless_fault, unless_memory, unless_refused, words, ℕ, ◌++◌, ◌<◌, ◌∷◌, ◌≡◌}
 use Rattle.rule_tree.specs.declared.rule.Rule.{Rule as FileRule}
-use Rattle.rule_tree.specs.Rule.{rule_of, states_of, still, states_of-still}
-use Rattle.multistate_rle.specs.Pattern.{pattern_of}
 use Rattle.multistate_macrocell.specs.Pattern as macrocells
-use Rattle.plane_core.specs.declared.loaded.Loaded.{Loaded}
-use Rattle.worlds.specs.World.{World, blank}
-use Rattle.schedule.specs.declared.branch.Branch.{Branch}
-use Rattle.schedule.specs.declared.document.Intervention.{Intervention}
-use Rattle.schedule.specs.declared.document.Bookmark.{Bookmark}
 use Rattle.schedule.specs.declared.fault.EditFault.{EditFault}
-use Rattle.schedule.specs.Acts.{first_of}
-use Rattle.schedule.specs.Asked.{Asked, ReplaceStart, ReplaceRule}
-use Rattle.schedule.specs.Change.{Changed, changed, refusal, unless_refused}
-use Rattle.schedule.specs.Plan.{Plan, opening}
-use Rattle.schedule.specs.Sound.{IsSound, IsPlaced}
 use Rattle.schedule.proofs.Sounds.{IsSound-opening}
-use Rattle.schedule.proofs.Shared.Changed.{HasStates, sound_changed, some_changed}
 use Rattle.schedule.proofs.Shared.Lines.{one_line}
-use Rattle.desk_script.specs.declared.format.Format.{Format}
 use Rattle.desk_script.specs.declared.format.Format.TheVariants as format
-use Rattle.desk_script.specs.Asks.{Ask, asks, Between}
-use Rattle.desk_script.specs.Command.{adds_branch}
-use Rattle.desk_script.proofs.Shared.Said.{AddsNone, Fits, LineFits, asks-fit}
-use Rattle.desk_server.specs.Faults.{Fault, of_edit, of_rule, of_pattern, of_macrocell}
-use Rattle.desk_server.specs.Shortage.{Shortage}
-use Rattle.desk_server.specs.Answer.{Session, opening_session, session_after}
-use Rattle.desk_server.specs.Answer.{After, accepted, answer, edited, id_word, started, taken, unless_fault, unless_memory}
-use Rattle.desk_server.specs.Script.{afters, documents_of, documents_with, first_shortage, later_shortages}
 use Rattle.reply_laws.specs.OneLine.{AddsNoBranch, HasOneLine}
 use Rattle.reply_laws.proofs.RuleStates.{rule_of-few}
 

@@ -1,21 +1,12 @@
 -- Answers for which nothing is short.
-use Rattle.std.proofs.Common.{◌≡◌, ◌⊎◌, inl, inr, ℕ, zero, suc, ◌&&◌, nat_le, List, [], ◌∷◌, ◌++◌, length, Bool, true, false, cond, refl, ap, Option, None, Some, codes, arith}
-use Rattle.std.specs.Prelude.{decimal, flat_map}
-use Rattle.schedule.specs.Plan.{Plan}
-use Rattle.schedule.specs.Asked.{asked_of}
-use Rattle.schedule.specs.declared.document.Bookmark.{Bookmark}
+use Rattle.reply_laws.proofs.Names.{After, AllByRecursion, AllCausedOver, Ask, BadCommand, Bookmark, Bool, Command, IsCaused, IsCausedOver, Known, List, NoEnd, NoShortage, None, Obey, Option, Plan, Refuse, Session, Shortage, Some, Take}
+use Rattle.reply_laws.proofs.Names.{Unsettled, [], afters, answer, ap, arith, asked_of, codes, cond, decimal, edited, false, first_shortage, flat_map, inl, inr, later_shortages, length, list_all, listed, nat_le, obeyed, only, polled, refl}
+use Rattle.reply_laws.proofs.Names.{scripted, session_after, settled, shown, suc, true, unless_memory, zero, ℕ, ◌&&◌, ◌++◌, ◌∷◌, ◌≡◌, ◌⊎◌}
 use Rattle.desk_core.specs.declared.cause.Cause.{Cause}
-use Rattle.std.specs.List.{AllByRecursion, list_all}
 use Rattle.desk_events.specs.Wanted.{bookmark_in}
-use Rattle.desk_script.specs.Asks.{Ask, Obey, Take, Refuse}
-use Rattle.desk_script.specs.declared.fault.ScriptFault.TheVariants.{BadCommand, NoEnd}
-use Rattle.desk_script.specs.declared.command.Command.{Command}
 use Rattle.desk_script.specs.declared.command.Command.TheVariants as command
 use Rattle.desk_server.specs.Reply.{unsettled_text, settled_text, polled_text}
 use Rattle.desk_script.specs.Listed.{bookmark_line, branch_line, intervention_line, lines_of, listed_text}
-use Rattle.desk_server.specs.Shortage.{Shortage, NoShortage, Unsettled, Known, IsCaused, IsCausedOver, AllCausedOver}
-use Rattle.desk_server.specs.Answer.{After, Session, answer, only, unless_memory, edited, settled, polled, listed, shown, scripted, obeyed, session_after}
-use Rattle.desk_server.specs.Script.{first_shortage, later_shortages, afters}
 use Rattle.reply_laws.specs.Plain.{ShowsShortage, NoneShows}
 
 -- an answer is the plain one, or its reply shows the shortage

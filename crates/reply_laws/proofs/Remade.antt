@@ -1,33 +1,20 @@
 -- The script of a document makes it anew.
-use Rattle.std.proofs.Common.{◌≡◌, ◌≢◌, ◌∙◌, ℕ, ◌+◌, ◌<◌, ◌≤◌, ◌^◌, ◌==◌, ℤ, List, [], ◌∷◌, ◌++◌, length, Bool, true}
-use Rattle.std.proofs.Common.{false, cond, codes, decimal, refl, sym, ap, append_assoc, subst, arith, map, filter}
-use Rattle.std.proofs.Common.{get_or, Option, Some, None, Ok}
-use Rattle.std.specs.List.{AllByRecursion, join_with_byte, onto_first, slice_split}
-use Rattle.std.proofs.lemmas.Int.{ints}
+use Rattle.reply_laws.proofs.Names.{AllBelow, AllByRecursion, Ask, Asked, Between, Bool, CanBeWritten, Changed, End, Ended, Format, HasMargin, HasText, InText, IsAccepted, IsDigit, IsInside, IsName, IsSound, IsVisible, IsWritten, List}
+use Rattle.reply_laws.proofs.Names.{Loaded, MakesAnew, NoLineFeed, NoShortage, None, NoneEnds, Obey, Ok, Option, Plan, ReplaceRule, ReplaceStart, ScriptsMakeAnew, Session, Some, Take, World, [], accepted, afters, all_so, answer, ap}
+use Rattle.reply_laws.proofs.Names.{append_assoc, arith, asked_of, asks, change, changed, codes, cond, decimal, differs, digit-visible, edited, edits_for, false, filter, format_of, full_line, get_or, id_word, ints, is_end, is_passed_over}
+use Rattle.reply_laws.proofs.Names.{is_word, join_with_byte, last_plan, length, line-first, lines_until, map, name_of, of_edit, of_macrocell, of_rule, onto_first, opening, opening_session, printed-tested, raw_bytes, refl, refusal}
+use Rattle.reply_laws.proofs.Names.{row_edits, rule_of, session_after, slice_split, squashed, started, subst, sym, text_of_lines, true, unless_fault, unless_refused, visible-printed, ℕ, ℤ, ◌++◌, ◌+◌, ◌<◌, ◌==◌, ◌^◌, ◌∙◌, ◌∷◌, ◌≡◌, ◌≢◌, ◌≤◌}
 use Rattle.std.proofs.lemmas.Slice.Eq.{bytes_eq-Decides}
-use Rattle.basics.proofs.Shared.Lists.{all_so}
 use Rattle.text_lines.specs.Blanks.{trim}
-use Rattle.text_lines.specs.LineEnds.{text_of_lines}
-use Rattle.text_lines.specs.Lines.{End, Ended, NoLineFeed, full_line, lines_until}
 use Rattle.text_lines.specs.Numbers.{numbers_line}
-use Rattle.text_lines.specs.RuleNames.{IsName}
-use Rattle.text_lines.proofs.Shared.ByteRanges.{IsDigit, IsVisible, differs, digit-visible, printed-tested}
-use Rattle.text_lines.proofs.Shared.ByteRanges.{visible-printed}
 use Rattle.text_lines.proofs.Shared.Decimals.{decimal-bytes, decimal-some}
-use Rattle.text_lines.proofs.Shared.LineEnds.{line-first}
 use Rattle.text_lines.proofs.Shared.PrintedLines.{IsLine, ends-append, ends-visible, line-between, name-visible}
 use Rattle.text_lines.proofs.Shared.PrintedLines.{printed-one, strip-printed}
-use Rattle.script_lines.specs.ScriptLine.{NoneEnds, is_end, is_passed_over, raw_bytes}
-use Rattle.script_lines.specs.Words.{is_word, squashed}
 use Rattle.rule_tree.specs.declared.rule.Rule.{Rule as FileRule}
-use Rattle.rule_tree.specs.Rule.{name_of, rule_of}
-use Rattle.plane_core.specs.declared.loaded.Loaded.{Loaded}
 use Rattle.plane_core.specs.declared.row.SquareRow.{SquareRow}
 use Rattle.plane_core.specs.Rows.{AreRows, kid}
 use Rattle.plane_core.specs.WorldRows.{rows_of}
 use Rattle.plane_core.proofs.Shared.WorldRows.{squares-rows_of}
-use Rattle.worlds.specs.World.{World}
-use Rattle.worlds.specs.Range.{AllBelow, HasMargin, IsInside}
 use Rattle.macrocell_lines.specs.declared.node.Node.{Node}
 use Rattle.macrocell_lines.specs.declared.node.Node.TheVariants.{Cells, Square as Quartered}
 use Rattle.macrocell_lines.specs.Nodes.{EachFollows, Follows}
@@ -37,31 +24,15 @@ use Rattle.multistate_macrocell.specs.Pattern as macrocells
 use Rattle.multistate_macrocell.specs.PatternText.{macrocell_text, node_of, nodes_of}
 use Rattle.multistate_macrocell.proofs.RowNodes.{rows-nodes, written-means}
 use Rattle.schedule.specs.declared.edit.Edit.{Edit}
-use Rattle.schedule.specs.Asked.{Asked, asked_of, ReplaceRule, ReplaceStart}
-use Rattle.schedule.specs.Change.{Changed, change, changed, refusal, unless_refused}
-use Rattle.schedule.specs.Plan.{Plan, opening}
-use Rattle.schedule.specs.Sound.{IsSound}
 use Rattle.document_replay.specs.Law.{IsMade, Lead, bare, remade}
-use Rattle.document_replay.specs.Replay.{edits_for, row_edits}
 use Rattle.document_replay.proofs.Shared.Leading.{lead_on}
 use Rattle.document_replay.proofs.Shared.Remade.{made_anew, rows_are_made_anew}
 use Rattle.document_replay.proofs.Shared.Worlds.{start_leads}
-use Rattle.desk_script.specs.declared.format.Format.{Format}
 use Rattle.desk_script.specs.declared.format.Format.TheVariants as format
 use Rattle.desk_script.specs.declared.command.Command.TheVariants as command
-use Rattle.desk_script.specs.Command.{format_of}
 use Rattle.desk_script.specs.Scripted.{edit_lines, script_text, start_lines}
-use Rattle.desk_script.specs.Asks.{Ask, Obey, Take, Between, InText, asks}
-use Rattle.desk_script.specs.ReadsBack.{IsWritten}
 use Rattle.desk_script.proofs.Shared.ReadsBack.{lines_read_back}
 use Rattle.desk_script.proofs.Shared.Asks.{asks-text, asks-text_command}
-use Rattle.desk_server.specs.Faults.{of_edit, of_macrocell, of_rule}
-use Rattle.desk_server.specs.Shortage.{NoShortage}
-use Rattle.desk_server.specs.Answer.{Session, accepted, answer, edited, id_word}
-use Rattle.desk_server.specs.Answer.{opening_session, session_after, started, unless_fault}
-use Rattle.desk_server.specs.Script.{afters}
-use Rattle.reply_laws.specs.Anew.{CanBeWritten, HasText, IsAccepted, MakesAnew, ScriptsMakeAnew}
-use Rattle.reply_laws.specs.Anew.{last_plan}
 use Rattle.reply_laws.proofs.Written.{rows-written, text-named}
 
 -- an edit was asked

@@ -1,13 +1,8 @@
 -- The rule that a file means has two states or more and 256 at most.
-use Rattle.std.proofs.Common.{◌≡◌, ℕ, ◌<◌, ◌≤◌, List, [], ◌∷◌, Option, Some, None, Ok, subst, arith}
-use Rattle.std.specs.Option.{option_map_or, ok_or}
-use Rattle.std.proofs.lemmas.Bool.Decides.{nat_tests}
-use Rattle.basics.specs.Results.{◌>>=◌}
-use Rattle.rule_file.specs.declared.fault.RuleFault.TheVariants.{BadTree}
+use Rattle.reply_laws.proofs.Names.{BadTree, Kind, List, NamedRule, None, NumberedLine, Ok, Option, RuleFile, Section, Some, [], arith, file_of, kind_by, kind_of, length, nat_lt, nat_tests, ok_or, option_map_or, rule_of, some-ok, states_of}
+use Rattle.reply_laws.proofs.Names.{states_of_kind, subst, then-ok, ℕ, ◌<◌, ◌>>=◌, ◌∷◌, ◌≡◌, ◌≤◌}
 use Rattle.rule_file.specs.declared.text.SectionKind.{SectionKind}
 use Rattle.rule_file.specs.declared.text.SectionKind.TheVariants as section
-use Rattle.rule_file.specs.RuleFile.{NumberedLine, RuleFile, Section, file_of}
-use Rattle.rule_file.proofs.Shared.Readings.{some-ok, then-ok}
 use Rattle.table_lines.specs.Lines.{lines_of}
 use Rattle.table_lines.proofs.Shared.SaidTables.{lines-read}
 use Rattle.table_symmetry.specs.Expanded.{expanded, transition_limit}
@@ -15,15 +10,11 @@ use Rattle.table_symmetry.specs.NextState.{is_quiescent}
 use Rattle.table_symmetry.specs.Table as table_values
 use Rattle.table_symmetry.specs.TableLines.{table_of, within_limits}
 use Rattle.table_symmetry.proofs.Shared.SaidTables.{passed}
-use Rattle.std.proofs.Common.{nat_lt, length}
 use Rattle.decision_tree.specs.declared.descriptors.Descriptor.{Descriptor}
 use Rattle.decision_tree.specs.declared.descriptors.TreeHead.{TreeHead}
 use Rattle.decision_tree.specs.Tree.{Tree}
 use Rattle.decision_tree.specs.TreeLines.{Described, describe, descriptor_of, head_from, head_of, if_quiescent, last_number, nodes_from, tree_from, tree_of, undescribed}
-use Rattle.rule_tree.specs.declared.rule.Kind.{Kind}
 use Rattle.rule_tree.specs.declared.rule.Kind.TheVariants.{Table, Tree as TreeKind}
-use Rattle.rule_tree.specs.NamedRule.{NamedRule}
-use Rattle.rule_tree.specs.Rule.{kind_by, kind_of, rule_of, states_of, states_of_kind}
 
 -- some states, and not too many
 abbrev pub AreFew : ℕ → Type 0

@@ -1,41 +1,14 @@
 -- The text that is kept is that of the document's rule.
-use Rattle.std.proofs.Common.{◌≡◌, ◌∙◌, ℕ, ◌+◌, ◌==◌, List, [], ◌∷◌, ◌++◌, Bool, false, cond, refl, sym}
-use Rattle.std.proofs.Common.{ap, subst, arith, append-nil, Option, Ok}
+use Rattle.reply_laws.proofs.Names.{After, AllByRecursion, Ask, Asked, BadCommand, Between, Bool, Changed, Command, Ended, Fault, Fits, Format, HasText, InText, KeptTextsAreRules, Line, LineFits, LinePlace, List, Loaded, NoEnd, NoLineFeed}
+use Rattle.reply_laws.proofs.Names.{Obey, Ok, Option, Plan, Refuse, ReplaceRule, Result, Session, Shortage, Take, TakesNoRule, World, [], all_append, answer, ap, append-nil, arith, asked_at, asked_by, asks, asks-fit, changed, cond, differs}
+use Rattle.reply_laws.proofs.Names.{edited, false, first_shortage, format_of, full_line, id_word, is_end, is_passed_over, last_line, later_shortages, lines_from, lines_until, nat_tests, no_line_feed-append, obeyed, of_macrocell, of_pattern}
+use Rattle.reply_laws.proofs.Names.{of_rule, of_script, opening_session, pattern_of, place_behind, refl, refusal, refused, rule_of, rule_text_after, session_after, sessions, started, subst, sym, taken, text_of_lines, unless_fault}
+use Rattle.reply_laws.proofs.Names.{unless_memory, ℕ, ◌++◌, ◌+◌, ◌==◌, ◌∙◌, ◌∷◌, ◌≡◌}
 use Rattle.std.specs.Prelude.{⊤}
-use Rattle.std.specs.List.{AllByRecursion}
 use Rattle.std.proofs.lemmas.List.Concat.{flat_map-append}
-use Rattle.basics.proofs.Shared.Lists.{all_append}
-use Rattle.text_lines.specs.LineEnds.{text_of_lines}
-use Rattle.text_lines.specs.Lines.{Ended, Line, NoLineFeed, full_line, last_line, lines_from, lines_until}
-use Rattle.text_lines.proofs.Shared.ByteRanges.{differs}
-use Rattle.text_lines.proofs.Shared.LineEnds.{no_line_feed-append}
-use Rattle.script_lines.specs.ScriptLine.{is_end, is_passed_over}
-use Rattle.multistate_rle.specs.Pattern.{pattern_of}
 use Rattle.multistate_macrocell.specs.Pattern as macrocells
-use Rattle.worlds.specs.World.{World}
-use Rattle.plane_core.specs.declared.loaded.Loaded.{Loaded}
 use Rattle.rule_tree.specs.declared.rule.Rule.{Rule as FileRule}
-use Rattle.rule_tree.specs.Rule.{rule_of}
-use Rattle.schedule.specs.Asked.{Asked, ReplaceRule}
-use Rattle.schedule.specs.Change.{Changed, changed, refusal}
-use Rattle.schedule.specs.Plan.{Plan}
-use Rattle.desk_script.specs.declared.fault.ScriptFault.TheVariants.{BadCommand, NoEnd}
-use Rattle.desk_script.specs.declared.format.Format.{Format}
 use Rattle.desk_script.specs.declared.format.Format.TheVariants as format
-use Rattle.desk_script.specs.declared.command.Command.{Command}
-use Rattle.desk_script.specs.Command.{format_of}
-use Rattle.desk_script.specs.Asks.{Ask, Obey, Take, Refuse, Between, InText, LinePlace, asked_at, asked_by, asks, place_behind}
-use Rattle.desk_script.proofs.Shared.Said.{Fits, LineFits, TakesNoRule, asks-fit}
-use Rattle.desk_server.specs.Faults.{Fault, of_macrocell, of_pattern, of_rule, of_script}
-use Rattle.desk_server.specs.Shortage.{Shortage}
-use Rattle.desk_server.specs.Answer.{After, Session, answer, edited, id_word, obeyed}
-use Rattle.desk_server.specs.Answer.{opening_session, refused, rule_text_after, session_after, started, taken}
-use Rattle.desk_server.specs.Answer.{unless_fault, unless_memory}
-use Rattle.std.specs.Prelude.{Result}
-use Rattle.std.proofs.lemmas.Bool.Decides.{nat_tests}
-use Rattle.desk_server.specs.Script.{first_shortage}
-use Rattle.desk_server.specs.Script.{later_shortages}
-use Rattle.reply_laws.specs.Anew.{HasText, KeptTextsAreRules, sessions}
 use Rattle.reply_laws.proofs.OneLine.{each-line, made-keeps}
 use Rattle.reply_laws.proofs.OneLine.{unless_fault-keeps, unless_memory-keeps}
 use Rattle.reply_laws.proofs.Remade.{AreTextLines}

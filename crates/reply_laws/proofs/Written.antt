@@ -1,46 +1,19 @@
 -- The rows of a document can be written.
-use Rattle.std.proofs.Common.{◌≡◌, ℕ, zero, suc, ◌+◌, ◌-◌, ◌<◌, ◌≤◌, ◌^◌, ◌*◌, ◌==◌, ◌&&◌, nat_lt, nat_le}
-use Rattle.std.proofs.Common.{ℤ, pos, List, [], ◌∷◌, ◌++◌, length, Bool, true, cond, refl, sym, subst, arith}
-use Rattle.std.proofs.Common.{codes, Option, Some, None, Ok, FitsSigned, w64}
-use Rattle.std.specs.Prelude.{IsTrue, flat_map}
-use Rattle.std.specs.Option.{ok_or, option_and_then, option_map}
-use Rattle.std.specs.List.{AllByRecursion, range_with_len}
+use Rattle.reply_laws.proofs.Names.{AllByRecursion, AreMarked, AreNamed, ArePlaced, AreWritten, Asked, Bookmark, Bool, Branch, CanBeWritten, FitsSigned, HasText, Insert, Intervention, IsAllowed, IsCount, IsForked, IsInside, IsName}
+use Rattle.reply_laws.proofs.Names.{IsNameByte, IsPlaced, IsSound, IsTimely, IsTrue, IsWritten, IsWrittenCell, IsWrittenDistance, IsWrittenView, Kind, List, NamedRule, NoRuleLine, None, NumberedLine, Ok, Option, Plan, RuleFile, SetBelow}
+use Rattle.reply_laws.proofs.Names.{Some, [], add_all, add_bookmark, add_branch, add_intervention, after, all_append, all_tested, arith, bookmark_edits, branch_edits, codes, cond, file_of, first_of, flat_map, ids_between}
+use Rattle.reply_laws.proofs.Names.{intervention_edits, ints, is_name, is_name_byte, kind_of, length, name_of, named, nat_le, nat_lt, nat_tests, numbered_from, ok_or, option_and_then, option_map, pos, range_with_len, refl, row_edits}
+use Rattle.reply_laws.proofs.Names.{rule_name, rule_of, says, section_of, skip_bookmark, skip_branch, skip_intervention, states_of, subst, suc, sym, then-ok, true, w64, zero, ℕ, ℤ, ◌&&◌, ◌*◌, ◌++◌, ◌+◌, ◌-◌, ◌<◌, ◌==◌, ◌>>=◌, ◌^◌, ◌∷◌, ◌≡◌}
+use Rattle.reply_laws.proofs.Names.{◌≤◌}
 use Rattle.std.proofs.lemmas.Bool.{and_parts, ltb-true}
-use Rattle.std.proofs.lemmas.Bool.Decides.{nat_tests}
 use Rattle.std.proofs.Math.Nat.{le-mul_of_pos_right, mul-le-mul_left}
-use Rattle.std.proofs.lemmas.Int.{ints}
-use Rattle.basics.proofs.Shared.Lists.{all_append}
 use Rattle.worlds.specs.declared.cell.CellSet.{CellSet}
-use Rattle.worlds.specs.Range.{IsInside}
 use Rattle.bookmarks.specs.declared.view.View.{View}
 use Rattle.bookmarks.specs.Within.{KeepsViewLimits, spans_plane}
 use Rattle.bookmarks.proofs.Places.{area, spanned}
-use Rattle.basics.specs.Results.{◌>>=◌}
-use Rattle.text_lines.specs.Lines.{says}
-use Rattle.text_lines.specs.RuleNames.{IsName, IsNameByte}
-use Rattle.text_lines.proofs.Shared.ByteRanges.{all_tested}
-use Rattle.rule_file.specs.declared.fault.RuleFault.TheVariants.{NoRuleLine}
-use Rattle.rule_file.specs.RuleFile.{NumberedLine, RuleFile, after, file_of, is_name, is_name_byte, named}
-use Rattle.rule_file.specs.RuleFile.{numbered_from, rule_name, section_of}
-use Rattle.rule_file.proofs.Shared.Readings.{then-ok}
-use Rattle.rule_tree.specs.declared.rule.Kind.{Kind}
-use Rattle.rule_tree.specs.NamedRule.{NamedRule}
-use Rattle.rule_tree.specs.Rule.{kind_of, name_of, rule_of, states_of}
 use Rattle.schedule.specs.declared.acts.Acts.{Acts}
-use Rattle.schedule.specs.declared.branch.Branch.{Branch}
-use Rattle.schedule.specs.declared.document.Bookmark.{Bookmark}
-use Rattle.schedule.specs.declared.document.Intervention.{Intervention}
-use Rattle.schedule.specs.Acts.{IsTimely, first_of}
-use Rattle.schedule.specs.Asked.{Asked, Insert}
 use Rattle.schedule.specs.Branches.{has_branch}
 use Rattle.schedule.specs.Ids.{bookmark_id, branch_id, has_id, intervention_id}
-use Rattle.schedule.specs.Plan.{Plan}
-use Rattle.schedule.specs.Sound.{AreMarked, AreNamed, ArePlaced, IsAllowed, IsForked, IsPlaced, IsSound, SetBelow}
-use Rattle.document_replay.specs.Replay.{add_all, add_bookmark, add_branch, add_intervention, bookmark_edits}
-use Rattle.document_replay.specs.Replay.{branch_edits, ids_between, intervention_edits, row_edits}
-use Rattle.document_replay.specs.Replay.{skip_bookmark, skip_branch, skip_intervention}
-use Rattle.desk_script.specs.ReadsBack.{AreWritten, IsCount, IsWritten, IsWrittenCell, IsWrittenView, IsWrittenDistance}
-use Rattle.reply_laws.specs.Anew.{CanBeWritten, HasText}
 
 -- ids between others
 range-counts : (a n : ℕ) → (0 < n → a + n < 2 ^ 64) → AllByRecursion IsCount (range_with_len a n)

@@ -1,18 +1,11 @@
 -- What the tests of edits say.
-use Rattle.std.proofs.Common.{◌≡◌, ℕ, zero, suc, ◌+◌, ◌<◌, ◌^◌, true, nat_lt, List, [], ◌∷◌, sym, subst, arith, ℤ, pos, neg_ℤ, ◌≤ℤ◌, ◌<ℤ◌, ◌+ℤ◌, ◌-ℤ◌, ◌&&◌, Bool, ap, ◌∙◌, map}
-use Rattle.std.specs.Prelude.{int_le, int_lt}
-use Rattle.std.specs.List.{AllByRecursion, list_all}
+use Rattle.schedule.proofs.Names.{AllBelow, AllByRecursion, AreNamed, Bool, CellSet, HasMargin, IsBoundingBox, IsGreatest, IsInBox, IsInside, List, Place, SetBelow, World, [], all_so, ap, arith, blank, cell, entries-blank, int_le, int_lt}
+use Rattle.schedule.proofs.Names.{is_named, lies_below, lies_near, list_all, map, may_be_named, nat_lt, nat_tests, neg_ℤ, pos, set_below, stay_in_range, subst, suc, sym, true, zero, ℕ, ℤ, ◌&&◌, ◌+ℤ◌, ◌+◌, ◌-ℤ◌, ◌<ℤ◌, ◌<◌, ◌^◌, ◌∙◌, ◌∷◌}
+use Rattle.schedule.proofs.Names.{◌≡◌, ◌≤ℤ◌}
 use Rattle.std.proofs.lemmas.Int.{ints}
-use Rattle.std.proofs.lemmas.Bool.Decides.{nat_tests}
-use Rattle.worlds.specs.World.{World, Place, cell, blank, entries-blank}
 use Rattle.worlds.specs.Live.{live, live-states, live-entries, as_live, cell-state_at, by_place}
-use Rattle.worlds.specs.Range.{IsInside, HasMargin, AllBelow, IsGreatest, IsInBox, IsBoundingBox}
 use Rattle.worlds.specs.declared.cell.Bounds.{Bounds}
-use Rattle.worlds.specs.declared.cell.CellSet.{CellSet}
-use Rattle.schedule.specs.Change.{is_named, may_be_named, stay_in_range, set_below, lies_near, lies_below}
 use Rattle.schedule.specs.Near.{box_near}
-use Rattle.schedule.specs.Sound.{AreNamed, SetBelow}
-use Rattle.basics.proofs.Shared.Lists.{all_so}
 use Rattle.schedule.proofs.Each.{each_passes, all_pass}
 
 place_inside : (x y : ℤ) → (is_named x && is_named y) ≡ true → IsInside (2 ^ 60) x y

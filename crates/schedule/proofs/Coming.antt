@@ -1,9 +1,5 @@
 -- Acting generations that are still to come, one after another.
-use Rattle.std.proofs.Common.{◌≡◌, ℕ, zero, suc, ◌+◌, ◌<◌, ◌≤◌, nat_le, ◌∷◌, filter, sym, ap, ◌∙◌, arith, None, Some}
-use Rattle.std.specs.Prelude.{if◌then◌else◌, min}
-use Rattle.std.proofs.lemmas.Bool.Decides.{nat_tests}
-use Rattle.schedule.specs.declared.acts.Acts.TheVariants.{Once, Every}
-use Rattle.schedule.specs.Acts.{generations_to}
+use Rattle.schedule.proofs.Names.{Every, None, Once, Some, ap, arith, filter, generations_to, if◌then◌else◌, min, nat_le, nat_tests, suc, sym, zero, ℕ, ◌+◌, ◌<◌, ◌∙◌, ◌∷◌, ◌≡◌, ◌≤◌}
 use Rattle.schedule.specs.Generations.{from_next}
 use Rattle.schedule.proofs.Shared.Acts.{between, between-none, between-alone, between-next, between-up_to}
 

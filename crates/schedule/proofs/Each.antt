@@ -1,7 +1,5 @@
 -- What holds of each element of a list.
-use Rattle.std.proofs.Common.{◌≡◌, Bool, true, ◌&&◌, List, [], ◌∷◌, refl, ap, ◌∙◌}
-use Rattle.std.specs.List.{list_all, AllByRecursion}
-use Rattle.std.proofs.lemmas.Bool.{and_parts}
+use Rattle.schedule.proofs.Names.{AllByRecursion, Bool, List, [], and_parts, ap, list_all, refl, true, ◌&&◌, ◌∙◌, ◌∷◌, ◌≡◌}
 
 -- what each passes
 pub each_passes : {X : Type 0} (p : X → Bool) (P : X → Type 0) (xs : List X) → ((x : X) → p x ≡ true → P x)

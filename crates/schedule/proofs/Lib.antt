@@ -6,3 +6,4 @@ pub mod Sounds
 pub mod SoundLists
 pub mod Coming
 pub mod Tallies
+pub mod Names

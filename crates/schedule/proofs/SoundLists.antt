@@ -1,29 +1,11 @@
 -- Edits of interventions and bookmarks that aren't refused keep the limits of documents.
-use Rattle.std.proofs.Common.{◌≡◌, ℕ, ◌+◌, ◌<◌, ◌≤◌, ◌^◌, Bool, false, ◌&&◌, not, List, [], ◌∷◌, ◌++◌, length, map, filter, refl, arith, None, length-append}
-use Rattle.std.specs.Prelude.{if◌then◌else◌, ◌==◌}
-use Rattle.std.specs.Option.{unwrap_or}
-use Rattle.std.specs.List.{AllByRecursion}
-use Rattle.worlds.specs.declared.cell.CellSet.{CellSet}
-use Rattle.rule_tree.specs.Rule.{states_of}
-use Rattle.bookmarks.specs.declared.view.View.{View}
-use Rattle.bookmarks.specs.Within.{KeepsViewLimits}
-use Rattle.schedule.specs.declared.document.Intervention.{Intervention}
-use Rattle.schedule.specs.declared.document.Bookmark.{Bookmark}
-use Rattle.schedule.specs.Plan.{Plan}
-use Rattle.schedule.specs.Sound.{IsAllowed, IsPlaced, ArePlaced, AreMarked, IsSound}
-use Rattle.schedule.specs.declared.acts.Acts.{Acts}
-use Rattle.schedule.specs.declared.acts.Acts.TheVariants.{Once, Every}
-use Rattle.schedule.specs.Acts.{repeats, first_of, marks_to}
-use Rattle.schedule.specs.Repeats.{marks_within, repeat_marks, has_too_many_marks}
-use Rattle.schedule.specs.Ids.{IdsRise, intervention_id, bookmark_id, changed_at, without}
-use Rattle.schedule.specs.Branches.{reach, bookmark_branch}
-use Rattle.schedule.specs.Change.{first_refusal, for_intervention, for_changed_intervention, for_bookmark, for_moved_bookmark, with_intervention, with_changed_intervention, without_intervention, changed_bookmarks, with_moved_bookmark, without_bookmark, next_intervention, next_bookmark, acting, marking, revised, is_too_far, is_before_fork}
-use Rattle.basics.proofs.Shared.Lists.{all_append}
+use Rattle.schedule.proofs.Names.{Acts, AllByRecursion, AreMarked, ArePlaced, Bookmark, Bool, CellSet, Every, IdsRise, Intervention, IsAllowed, IsPlaced, IsSound, KeepsViewLimits, List, None, Once, Plan, View, [], acting, all_append, arith}
+use Rattle.schedule.proofs.Names.{bookmark_branch, bookmark_id, changed_at, changed_bookmarks, false, filter, first_of, first_refusal, fold-map, for_bookmark, for_changed_intervention, for_intervention, for_moved_bookmark}
+use Rattle.schedule.proofs.Names.{has_too_many_marks, if◌then◌else◌, intervention_id, is_before_fork, is_too_far, length, length-append, length-map, map, marking, marks_to, marks_within, next_bookmark, next_intervention, not, reach, refl}
+use Rattle.schedule.proofs.Names.{repeat_marks, repeats, revised, states_of, sum_by_push, unwrap_or, with_changed_intervention, with_intervention, with_moved_bookmark, without, without_bookmark, without_intervention, ℕ, ◌&&◌, ◌++◌, ◌+◌}
+use Rattle.schedule.proofs.Names.{◌<◌, ◌==◌, ◌^◌, ◌∷◌, ◌≡◌, ◌≤◌}
 use Rattle.schedule.proofs.Shared.Ids.{rise_push, given_push, each_map, rise_map, each_filter, rise_filter, length-filter_le, placed_at}
-use Rattle.std.proofs.lemmas.List.{length-map}
 use Rattle.schedule.proofs.Shared.Repeats.{sum-less, sum-filter, marks_to-more, reach-unmarked}
-use Rattle.std.proofs.lemmas.List.Folds.{fold-map}
-use Rattle.std.proofs.lemmas.List.Sums.{sum_by_push}
 use Rattle.schedule.proofs.Each.{all_are}
 use Rattle.schedule.proofs.Unrefused.{near, placed, few_enough, fit_insertion, fit_change, fit_bookmark}
 

@@ -1,27 +1,9 @@
 -- Edits of rule, start and branches that aren't refused keep the limits of documents.
-use Rattle.std.proofs.Common.{◌≡◌, ℕ, ◌+◌, ◌<◌, ◌≤◌, ◌^◌, Bool, true, false, not, List, [], ◌∷◌, ◌++◌, refl, sym, subst, arith, None, length-append}
-use Rattle.std.specs.Prelude.{◌==◌}
-use Rattle.std.specs.List.{AllByRecursion}
-use Rattle.std.specs.Prelude.{All}
-use Rattle.worlds.specs.World.{World, blank, cell-blank}
-use Rattle.worlds.specs.Lay.{lay}
-use Rattle.worlds.specs.Range.{HasMargin, AllBelow, CanBeLaid}
-use Rattle.worlds.specs.declared.cell.CellSet.{CellSet}
-use Rattle.worlds.proofs.Shared.Keeps.{HasMargin-lay, AllBelow-lay}
-use Rattle.rule_tree.specs.declared.rule.Rule.{Rule}
-use Rattle.rule_tree.specs.Rule.{states_of, still, states_of-still}
-use Rattle.schedule.specs.declared.document.Intervention.{Intervention}
-use Rattle.schedule.specs.declared.document.Bookmark.{Bookmark}
-use Rattle.schedule.specs.declared.branch.Branch.{Branch}
-use Rattle.schedule.specs.Plan.{Plan, opening}
-use Rattle.schedule.specs.Sound.{IsAllowed, IsPlaced, IsForked, AreSound, IsSound}
-use Rattle.schedule.specs.Acts.{marks_to}
-use Rattle.schedule.specs.Repeats.{repeat_marks}
-use Rattle.schedule.specs.Ids.{branch_id, without}
-use Rattle.schedule.specs.Branches.{has_branch, reach}
-use Rattle.schedule.specs.Change.{first_refusal, for_cells, spent, for_start, for_rule, for_branch, for_removed_branch, revised, changed_cells, next_branch, with_branch, without_branch, is_in_use, set_below, lies_near, lies_below, all_set_below}
+use Rattle.schedule.proofs.Names.{All, AllBelow, AllBelow-lay, AllByRecursion, AreSound, Bookmark, Bool, Branch, CanBeLaid, CellSet, HasMargin, HasMargin-lay, Intervention, IsAllowed, IsForked, IsPlaced, IsSound, List, None, Plan, Rule}
+use Rattle.schedule.proofs.Names.{World, [], all_append, all_set_below, all_so, arith, blank, branch_id, cell-blank, changed_cells, false, first_refusal, for_branch, for_cells, for_removed_branch, for_rule, for_start, has_branch, is_in_use}
+use Rattle.schedule.proofs.Names.{lay, length-append, lies_below, lies_near, marks_to, next_branch, not, opening, reach, refl, repeat_marks, revised, set_below, spent, states_of, states_of-still, still, subst, sym, true, with_branch}
+use Rattle.schedule.proofs.Names.{without, without_branch, ℕ, ◌++◌, ◌+◌, ◌<◌, ◌==◌, ◌^◌, ◌∷◌, ◌≡◌, ◌≤◌}
 use Rattle.schedule.proofs.Shared.History.{CanBeLaid-named}
-use Rattle.basics.proofs.Shared.Lists.{all_append, all_so}
 use Rattle.schedule.proofs.Each.{each_passes}
 use Rattle.schedule.proofs.Shared.Ids.{rise_push, given_push, each_filter, rise_filter, length-filter_le, all_unnamed}
 use Rattle.schedule.proofs.Shared.Branches.{unused, has_branch-given, IsPlaced-more, IsPlaced-without}

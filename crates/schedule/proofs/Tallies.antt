@@ -1,11 +1,6 @@
 -- A tally counts what is counted with the reach of each branch anew.
-use Rattle.std.proofs.Common.{◌≡◌, ℕ, List, [], ◌∷◌, refl, ap, ◌∙◌, arith}
-use Rattle.std.specs.Prelude.{fold}
-use Rattle.std.proofs.lemmas.Bool.Decides.{nat_tests}
-use Rattle.schedule.specs.declared.acts.Acts.{Acts}
-use Rattle.schedule.specs.declared.document.Intervention.{Intervention}
+use Rattle.schedule.proofs.Names.{Acts, Intervention, List, [], ap, arith, capped_sum, fold, nat_tests, refl, ℕ, ◌∙◌, ◌∷◌, ◌≡◌}
 use Rattle.schedule.specs.declared.repeats.Tally.{Tally}
-use Rattle.schedule.specs.Repeats.{capped_sum}
 use Rattle.schedule.specs.Tally.{tallied, tally_of}
 
 -- after one intervention more the sum is right, and the reach is that of the branch at hand

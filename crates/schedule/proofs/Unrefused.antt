@@ -1,24 +1,12 @@
 -- What holds where an edit isn't refused: of the cells, the generations and the branches that it names, of the
 -- marks, and of the revision.
-use Rattle.std.proofs.Common.{◌≡◌, ℕ, ◌+◌, ◌<◌, ◌≤◌, ◌^◌, Bool, true, false, ◌&&◌, not, nat_le, List, ◌∷◌, length, refl, arith, Option, None, Some}
-use Rattle.std.specs.Prelude.{if◌then◌else◌}
-use Rattle.std.specs.Option.{unwrap_or}
-use Rattle.std.proofs.lemmas.Bool.{not-false, ltb-false, leb-false}
-use Rattle.std.proofs.lemmas.Bool.Decides.{nat_tests}
-use Rattle.worlds.specs.declared.cell.CellSet.{CellSet}
-use Rattle.rule_tree.specs.Rule.{states_of}
-use Rattle.rule_tree.specs.declared.rule.Rule.{Rule}
-use Rattle.bookmarks.specs.declared.view.View.{View}
-use Rattle.bookmarks.specs.Within.{KeepsViewLimits}
-use Rattle.schedule.specs.declared.acts.Acts.{Acts}
+use Rattle.schedule.proofs.Names.{Acts, AreNamed, Bool, CellSet, IsPlaced, IsTimely, KeepsViewLimits, List, None, Option, Plan, Rule, SetBelow, Some, View, acts_too_far, arith, changed_bookmarks, false, first_of, first_refusal}
+use Rattle.schedule.proofs.Names.{for_bookmark, for_branch, for_cells_before, for_changed, for_changed_intervention, for_inserted, for_intervention, for_marks, for_rule, for_view, fork_of, has_branch, if◌then◌else◌, intervention_branch}
+use Rattle.schedule.proofs.Names.{is_bad_repeat, is_before_fork, is_too_far, leb-false, length, ltb-false, nat_le, nat_tests, not, not-false, refl, repeat_marks, repeats, states_of, true, unwrap_or, with_branch, with_changed_intervention}
+use Rattle.schedule.proofs.Names.{with_intervention, ℕ, ◌&&◌, ◌+◌, ◌<◌, ◌^◌, ◌∷◌, ◌≡◌, ◌≤◌}
 use Rattle.schedule.specs.declared.fault.EditFault.{EditFault}
 use Rattle.schedule.specs.declared.fault.EditFault.TheVariants.{GenerationTooFar, BadRepeat, BeforeFork, NoSuchBranch, TooManyInterventions, TooManyBookmarks, TooManyBranches}
-use Rattle.schedule.specs.Plan.{Plan}
-use Rattle.schedule.specs.Sound.{AreNamed, SetBelow, IsPlaced}
-use Rattle.schedule.specs.Acts.{repeats, first_of, IsTimely}
-use Rattle.schedule.specs.Repeats.{repeat_marks, has_too_many_marks}
-use Rattle.schedule.specs.Branches.{has_branch, fork_of, intervention_branch}
-use Rattle.schedule.specs.Change.{first_refusal, for_cells_before, for_marks, for_inserted, for_changed, for_intervention, for_changed_intervention, for_rule, for_bookmark, for_view, for_branch, acts_too_far, is_bad_repeat, with_intervention, with_changed_intervention, changed_bookmarks, with_branch, is_too_far, is_before_fork}
+use Rattle.schedule.specs.Repeats.{has_too_many_marks}
 use Rattle.schedule.proofs.Below.{AreNamed-stay, SetBelow-test}
 
 pub passed : (b : Bool) (fault : EditFault) (rest : Option EditFault) → (if b then Some fault else rest) ≡ None

@@ -1,15 +1,7 @@
 -- A line that is being kept, a byte at a time.
-use Rattle.std.proofs.Common.{◌≡◌, ◌≢◌, ℕ, ◌==◌, List, [], ◌∷◌, ◌++◌, length, Bool, true, false, cond, sym, ◌∙◌, ap, refl, append_assoc, append-nil, arith, subst, Some, None}
-use Rattle.std.specs.List.{slice_get}
-use Rattle.text_lines.specs.Blanks.{is_blank, trim_start, trim_end, trim}
-use Rattle.script_lines.specs.KeptLine.{Holds, IsRest, Took, Says, KeepsBy, squash, ends_in_space}
-use Rattle.script_lines.specs.Words.{squashed, words}
-use Rattle.script_lines.specs.ScriptLine.{is_passed_over}
-use Rattle.script_lines.specs.declared.kept_line.KeptLine.{KeptLine}
+use Rattle.script_lines.proofs.Names.{Blank, Bool, Cut, Holds, IsRest, KeepsBy, KeptLine, List, None, Says, Some, Took, Whole, [], ap, append-nil, append_assoc, arith, cond, ends_in_space, false, is_blank, is_passed_over, length}
+use Rattle.script_lines.proofs.Names.{push_not_nil, refl, slice_get, squash, squashed, subst, sym, trim, trim_end, trim_end-push, trim_end-push_blank, trim_start, true, words, ℕ, ◌++◌, ◌==◌, ◌∙◌, ◌∷◌, ◌≡◌, ◌≢◌}
 use Rattle.script_lines.specs.declared.kept_line.Tail.{Tail}
-use Rattle.script_lines.specs.declared.kept_line.Tail.TheVariants.{Whole, Blank, Cut}
-use Rattle.basics.proofs.Shared.Lists.{push_not_nil}
-use Rattle.text_lines.proofs.Shared.Trims.{trim_end-push, trim_end-push_blank}
 use Rattle.script_lines.proofs.Trims.{nil_front, trim_start-push, trim_start-push_blank, trim_end-push_some, trim_end-append, trim_end-append_blank, trim-is_trimmed}
 use Rattle.script_lines.proofs.Squash.{squash-push_kept, squash-push_gap, squash-nil, squash-trim_end, squash-trimmed, words-squashed, ends_in_space-push}
 

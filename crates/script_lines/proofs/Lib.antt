@@ -4,3 +4,4 @@ pub mod Reading
 pub mod Splitting
 pub mod Squash
 pub mod Trims
+pub mod Names

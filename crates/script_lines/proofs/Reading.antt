@@ -1,12 +1,7 @@
 -- A line that is being read.
-use Rattle.std.proofs.Common.{◌≡◌, ◌≢◌, ℕ, ◌==◌, List, [], ◌∷◌, ◌++◌, true, false, Bool, sym, ◌∙◌, ap, refl, append_assoc, append-nil, Option, Some, None}
-use Rattle.script_lines.specs.Ahead.{Ahead, TakesBytes}
+use Rattle.script_lines.proofs.Names.{Ahead, Bool, GrowsText, KeptLine, List, NoLineFeed, None, Option, Saw, Some, TakesBytes, Took, [], ap, append-nil, append_assoc, false, push_not_nil, refl, strip_carriage_return, sym, true, waiting, ℕ}
+use Rattle.script_lines.proofs.Names.{◌++◌, ◌==◌, ◌∙◌, ◌∷◌, ◌≡◌, ◌≢◌}
 use Rattle.script_lines.proofs.Shared.Ahead.{takes_then}
-use Rattle.text_lines.specs.Lines.{NoLineFeed, strip_carriage_return}
-use Rattle.script_lines.specs.KeptLine.{Took, Saw, waiting}
-use Rattle.script_lines.specs.Text.{GrowsText}
-use Rattle.script_lines.specs.declared.kept_line.KeptLine.{KeptLine}
-use Rattle.basics.proofs.Shared.Lists.{push_not_nil}
 
 -- these bytes of the line were seen
 pub record IsReading (old new : Ahead) (before after : Option (List ℕ)) (line : KeptLine) (empty : Bool) : Type 0 where

@@ -1,10 +1,6 @@
 -- Words, a byte at a time.
-use Rattle.std.proofs.Common.{◌≡◌, ◌≢◌, ℕ, ◌==◌, List, [], ◌∷◌, ◌++◌, Bool, true, false, cond, filter, sym, ◌∙◌, ap, refl, append_assoc, append-nil, eqb-true, zero, suc, ◌<◌, ◌≤◌, length, take, drop, get_or, take-append-drop, length-drop, arith, add-zero}
-use Rattle.std.proofs.lemmas.List.{get_or-drop, length-take}
-use Rattle.std.specs.List.{slice_split, onto_first, join_with_byte}
-use Rattle.script_lines.specs.Words.{is_word, words, starts_in_word}
-use Rattle.script_lines.specs.KeptLine.{squash, ends_in_space}
-use Rattle.basics.proofs.Shared.Lists.{push_not_nil}
+use Rattle.script_lines.proofs.Names.{Bool, List, [], add-zero, ap, append-nil, append_assoc, arith, cond, drop, ends_in_space, eqb-true, false, filter, get_or, get_or-drop, is_word, join_with_byte, length, length-drop, length-take}
+use Rattle.script_lines.proofs.Names.{onto_first, push_not_nil, refl, slice_split, squash, starts_in_word, suc, sym, take, take-append-drop, true, words, zero, ℕ, ◌++◌, ◌<◌, ◌==◌, ◌∙◌, ◌∷◌, ◌≡◌, ◌≢◌, ◌≤◌}
 
 -- a word, unless it is empty
 abbrev pub word : List ℕ → List (List ℕ)

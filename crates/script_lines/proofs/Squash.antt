@@ -1,10 +1,6 @@
 -- Runs of spaces cut to one, and trimming.
-use Rattle.std.proofs.Common.{◌≡◌, ◌≢◌, ℕ, ◌==◌, ◌||◌, List, [], ◌∷◌, ◌++◌, Bool, true, false, cond, sym, ◌∙◌, ap, refl}
-use Rattle.std.specs.List.{join_with_byte}
-use Rattle.text_lines.specs.Blanks.{is_blank, before_end, trim_end, IsTrimmed}
-use Rattle.script_lines.specs.Words.{squashed, words}
-use Rattle.script_lines.specs.KeptLine.{squash, ends_in_space}
-use Rattle.text_lines.proofs.Shared.Trims.{before_end-more}
+use Rattle.script_lines.proofs.Names.{Bool, IsTrimmed, List, [], ap, before_end, before_end-more, cond, ends_in_space, false, is_blank, join_with_byte, refl, squash, squashed, sym, trim_end, true, words, ℕ, ◌++◌, ◌==◌, ◌||◌, ◌∙◌, ◌∷◌, ◌≡◌}
+use Rattle.script_lines.proofs.Names.{◌≢◌}
 use Rattle.script_lines.proofs.Trims.{trim_end-trim_end}
 use Rattle.script_lines.proofs.Splitting.{join-words_from, words-from, words-squash}
 

@@ -1,8 +1,6 @@
 -- Trimming, a byte at a time.
-use Rattle.std.proofs.Common.{◌≡◌, ◌≢◌, ℕ, List, [], ◌∷◌, ◌++◌, length, take, Bool, true, false, cond, sym, ◌∙◌, ap, refl}
-use Rattle.basics.proofs.Shared.Lists.{push_not_nil}
-use Rattle.text_lines.proofs.Shared.Trims.{before_end-more, trim_end-push, trim_end-push_blank}
-use Rattle.text_lines.specs.Blanks.{is_blank, trim_start, before_end, trim_end, trim, StartsSolid, IsTrimmed}
+use Rattle.script_lines.proofs.Names.{Bool, IsTrimmed, List, StartsSolid, [], ap, before_end, before_end-more, cond, false, is_blank, length, push_not_nil, refl, sym, take, trim, trim_end, trim_end-push, trim_end-push_blank, trim_start}
+use Rattle.script_lines.proofs.Names.{true, ℕ, ◌++◌, ◌∙◌, ◌∷◌, ◌≡◌, ◌≢◌}
 
 pub nil_front : (xs ys : List ℕ) → xs ++ ys ≡ [] → xs ≡ []
 nil_front [] ys e = refl

@@ -1,7 +1,5 @@
 -- What one quadtree laid on another says, and what it says after a part of the way.
-use Rattle.std.proofs.Common.{◌≡◌, ◌⊎◌, ℕ, ◌-◌, ◌^◌, nat_lt, Bool, true, false, cond, Result, Ok, Err, OnOk, OnErr, refl, sym, subst, inl, inr}
-use Rattle.square_tree.specs.Quadtree.{Quadtree, keep, cell, quad, HasLevel}
-use Rattle.square_tree.specs.Over.{over, IsPartlyOver}
+use Rattle.square_tree.proofs.Names.{Bool, Err, HasLevel, IsPartlyOver, Ok, OnErr, OnOk, Quadtree, Result, cell, cond, false, inl, inr, keep, nat_lt, over, quad, refl, subst, sym, true, ℕ, ◌-◌, ◌^◌, ◌≡◌, ◌⊎◌}
 
 -- it has the level of both
 pub HasLevel-over : (l : ℕ) (t u : Quadtree) → HasLevel l t → HasLevel l u → HasLevel l (over t u)

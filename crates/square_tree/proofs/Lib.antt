@@ -3,3 +3,4 @@ pub mod Shared
 pub mod Shown
 pub mod Mapped
 pub mod Windows
+pub mod Names

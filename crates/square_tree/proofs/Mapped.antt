@@ -1,17 +1,9 @@
 -- What a change of a quadtree does to the map that contracts see.
-use Rattle.std.proofs.Common.{◌≡◌, ◌⊎◌, ℕ, ◌-◌, ◌≤◌, ◌<◌, true, false, cond, None, Some, ℤ, pos, negsuc, ◌+ℤ◌, ◌-ℤ◌, ◌<ℤ◌, ◌++◌, refl, sym, ap, ap₂, ◌∙◌, inl, inr, arith}
-use Rattle.std.specs.Option.{option_or}
+use Rattle.square_tree.proofs.Names.{Cells, HasLevel, IsLaid, IsPartlyLaid, IsPartlyOverlaid, IsTreeOf, None, Place, Quadtree, Some, ap, ap₂, arith, at, at_from, cells_of, cond, entries, false, find, inl, inr, ints, keep, least, nat_tests}
+use Rattle.square_tree.proofs.Names.{negsuc, option_or, overlaid, place_cmp, pos, reach, refl, same_place, sym, true, ℕ, ℤ, ◌++◌, ◌+ℤ◌, ◌-ℤ◌, ◌-◌, ◌<ℤ◌, ◌<◌, ◌∙◌, ◌≡◌, ◌≤◌, ◌⊎◌}
 use Rattle.std.specs.FinMap as finite
-use Rattle.std.specs.FinMap.Entries.{find}
-use Rattle.std.proofs.lemmas.Int.{ints}
-use Rattle.std.proofs.lemmas.Bool.Decides.{nat_tests}
-use Rattle.square_tree.specs.Place.{Place, place_cmp, same_place}
-use Rattle.square_tree.specs.Quadtree.{Quadtree, keep, HasLevel, at}
 use Rattle.square_tree.specs.Change.{IsSet}
-use Rattle.square_tree.specs.Laid.{IsLaid, IsPartlyLaid, at_from}
-use Rattle.square_tree.specs.Cells.{Cells, least, reach, overlaid, IsPartlyOverlaid}
-use Rattle.square_tree.specs.Entries.{entries, states_of, cells_of}
-use Rattle.square_tree.specs.TreeOf.{IsTreeOf}
+use Rattle.square_tree.specs.Entries.{states_of}
 use Rattle.square_tree.proofs.Shown.{places_total, places_exact, same_is, is_same, find-append, find_west, find_north, find_at}
 
 -- the state of the cell in column u and row v

@@ -1,15 +1,10 @@
 -- What the map of a quadtree has at each place.
-use Rattle.std.proofs.Common.{◌≡◌, ℕ, ◌-◌, ◌^◌, ◌<◌, ◌≤◌, true, cond, None, Some, ℤ, pos, ◌+ℤ◌, ◌<ℤ◌, List, [], ◌∷◌, ◌++◌, refl, sym, ap, ap₂, ◌∙◌, arith}
-use Rattle.std.specs.Option.{option_or}
+use Rattle.square_tree.proofs.Names.{HasLevel, List, None, Place, Quadtree, Some, [], ap, ap₂, arith, at, cell, cond, find, ints, keep, nat_tests, option_or, place_cmp, pos, quad, refl, same_place, sym, true, ℕ, ℤ, ◌++◌, ◌+ℤ◌, ◌-◌, ◌<ℤ◌}
+use Rattle.square_tree.proofs.Names.{◌<◌, ◌^◌, ◌∙◌, ◌∷◌, ◌≡◌, ◌≤◌}
 use Rattle.std.specs.Ordering.{int_cmp, is_eq}
 use Rattle.std.specs.Cmp.{IsTotalOrder, int_cmp_total}
-use Rattle.std.specs.FinMap.Entries.{find}
-use Rattle.std.proofs.lemmas.Int.{ints}
-use Rattle.std.proofs.lemmas.Bool.Decides.{nat_tests}
 use Rattle.std.proofs.lemmas.Cmp.{on_total, then_total, tied_itself}
 use Rattle.std.proofs.lemmas.Map.Lookups.{CmpEqualImpliesEq, exact_pairs, exact_signed}
-use Rattle.square_tree.specs.Place.{Place, place_cmp, same_place}
-use Rattle.square_tree.specs.Quadtree.{Quadtree, keep, cell, quad, HasLevel, at}
 use Rattle.square_tree.specs.Entries.{entries}
 use Rattle.square_tree.proofs.Shared.Placed.{at_east, at_south, or_none}
 

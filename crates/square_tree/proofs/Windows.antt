@@ -1,11 +1,8 @@
 -- Steps of the states of a window.
-use Rattle.std.proofs.Common.{◌≡◌, ◌∙◌, sym, ap, ℕ, ◌+◌, ◌^◌, ◌<◌, ◌≤◌, List, [], ◌∷◌, ◌++◌, ℤ, pos, ◌+ℤ◌, map, unwrap_or, append-nil, arith, SFits, w64}
-use Rattle.std.proofs.lemmas.Int.{ints}
+use Rattle.square_tree.proofs.Names.{Cells, List, SFits, SpansSquare, [], ap, append-nil, arith, ints, map, pos, pow_mono, row_states, state_at, sym, unwrap_or, w64, window_states, ℕ, ℤ, ◌++◌, ◌+ℤ◌, ◌+◌, ◌<◌, ◌^◌, ◌∙◌, ◌∷◌, ◌≡◌, ◌≤◌}
 use Rattle.std.specs.List.{range_with_len, concat}
 use Rattle.std.proofs.lemmas.List.Folds.{concat-append}
 use Rattle.std.proofs.lemmas.List.FromFn.{map-range_with_len_more}
-use Rattle.std.proofs.Math.Pow.{pow_mono}
-use Rattle.square_tree.specs.Cells.{Cells, SpansSquare, state_at, row_states, window_states}
 
 -- one more state
 pub row-more : (c : Cells) (x y : ℤ) (k s : ℕ) → s ≡ unwrap_or (state_at c (x +ℤ pos k) y) 0 → row_states c x y k ++ s ∷ [] ≡ row_states c x y (k + 1)

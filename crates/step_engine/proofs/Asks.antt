@@ -1,20 +1,9 @@
 -- What asking at one more place adds.
-use Rattle.std.proofs.Common.{◌≡◌, ℕ, zero, suc, ◌<◌, true, false, ◌==◌, List, [], ◌∷◌, ◌++◌, refl, sym, ap, ◌∙◌, subst, arith, ℤ, append-nil, append_assoc}
-use Rattle.std.specs.Prelude.{All, is_some}
-use Rattle.std.proofs.lemmas.Bool.{and_parts, eqb-true}
-use Rattle.std.proofs.lemmas.List.Elements.{All-push, All-nil}
-use Rattle.std.proofs.lemmas.List.Folds.{list_any-append}
-use Rattle.std.specs.List.{list_any}
+use Rattle.step_engine.proofs.Names.{All, All-nil, All-push, Asked, AsksMore, CellSet, Cells, HasAsked, IsHeld, IsKeptCell, IsNoted, List, Place, World, [], and_parts, ap, append-nil, append_assoc, arith, blank, cell, cell-blank, cell-fill}
+use Rattle.step_engine.proofs.Names.{cell-put, eqb-true, false, fill, fill-append, fill-none, fill-one, follows, is_some, lay, lay-push, list_any, list_any-append, listed_as, place_cmp, places_total, put, refl, same_is, same_place}
+use Rattle.step_engine.proofs.Names.{same_world, state_at, subst, suc, sym, true, zero, ℕ, ℤ, ◌++◌, ◌<◌, ◌==◌, ◌∙◌, ◌∷◌, ◌≡◌}
 use Rattle.std.specs.FinMap as finite
-use Rattle.worlds.specs.declared.cell.CellSet.{CellSet}
-use Rattle.worlds.specs.World.{World, Place, cell, blank, put, cell-blank, cell-put, same_place, same_world, place_cmp, places_total}
-use Rattle.worlds.specs.Fill.{fill, fill-none, fill-one, fill-append, cell-fill, same_is}
-use Rattle.worlds.specs.Lay.{lay, lay-push}
-use Rattle.square_tree.specs.Cells.{Cells, IsHeld, state_at}
 use Rattle.square_tree.specs.Cells as patches
-use Rattle.step_engine.specs.declared.asked.Asked.{Asked}
-use Rattle.step_engine.specs.Generation.{IsKeptCell}
-use Rattle.step_engine.specs.Asked.{follows, HasAsked, AsksMore, listed_as, IsNoted}
 
 -- a place that was one of these
 member-again : (p q : Place) (ps : List Place) → list_any (same_place q) ps ≡ true → list_any (same_place p) (ps ++ q ∷ []) ≡ list_any (same_place p) ps

@@ -1,10 +1,5 @@
 -- The bounding box of a world in the range of planes.
-use Rattle.std.proofs.Common.{◌≡◌, ℕ, arith}
-use Rattle.std.specs.Prelude.{◌↔◌}
-use Rattle.std.proofs.lemmas.Int.{ints}
-use Rattle.worlds.specs.declared.cell.Bounds.{Bounds}
-use Rattle.worlds.specs.World.{World, blank, cell-blank}
-use Rattle.worlds.specs.Range.{HasMargin, IsBoundingBox}
+use Rattle.step_engine.proofs.Names.{Bounds, HasMargin, IsBoundingBox, World, arith, blank, cell-blank, ints, ℕ, ◌↔◌, ◌≡◌}
 use Rattle.step_engine.specs.Box.{IsInRange, BoxHasMargin}
 
 -- a world has the margin that its bounding box has

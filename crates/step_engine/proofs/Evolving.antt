@@ -1,16 +1,10 @@
 -- What a plane keeps some generations later.
-use Rattle.std.proofs.Common.{◌≡◌, ℕ, zero, suc, ◌+◌, ◌<◌, ◌≤◌, List, sym, subst, arith, ℤ}
-use Rattle.worlds.specs.World.{World}
-use Rattle.worlds.specs.Step.{step, nine_zeros, AreNineBelow}
+use Rattle.step_engine.proofs.Names.{AllBelow, AllBelow-step, AreNineBelow, CanEvolve, HasMargin, HasMargin-less, HasMargin-step, IsCentred, List, World, arith, edge, iterate-add, nine_zeros, step, subst, suc, sym, zero, ℕ, ℤ, ◌+◌, ◌<◌}
+use Rattle.step_engine.proofs.Names.{◌≡◌, ◌≤◌}
 use Rattle.worlds.specs.Iterate.{iterate}
-use Rattle.worlds.specs.Range.{HasMargin, AllBelow}
 use Rattle.worlds.specs.Square as squares
 use Rattle.worlds.specs.Square.{square_at}
-use Rattle.worlds.proofs.Shared.Stepped.{AllBelow-step, HasMargin-step, HasMargin-less}
-use Rattle.worlds.proofs.Shared.Steps.{iterate-add}
 use Rattle.hash_life.specs.Puts.{IsBelow}
-use Rattle.square_table.specs.Centred.{edge, IsCentred}
-use Rattle.step_engine.specs.Evolved.{CanEvolve}
 
 -- the states of a square of a world
 IsBelow-square_at : (c : ℕ) (w : World) (k : ℕ) (x y : ℤ) → AllBelow c w → IsBelow c (square_at w k x y)

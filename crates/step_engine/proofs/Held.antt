@@ -1,23 +1,13 @@
 -- The squares of a table's rows as different squares.
-use Rattle.std.proofs.Common.{◌≡◌, ℕ, zero, suc, ◌+◌, ◌<◌, ◌≤◌, List, [], ◌∷◌, length, refl, sym, ap, ◌∙◌, subst, arith, inl, inr}
-use Rattle.std.specs.Prelude.{◌≢◌, Bool, false, cond, filter, All, Contains}
-use Rattle.std.proofs.lemmas.List.Elements.{All-nil, All-cons, All-weaker, Contains-get_or, Contains-append_right}
+use Rattle.step_engine.proofs.Names.{All, All-cons, All-nil, All-weaker, AreAmong, AreDifferent, AreDistinct, AreReported, Bool, Contains, Contains-append_right, Contains-get_or, HoldsWithin, IsMade, List, Makes, Report, Square, World, []}
+use Rattle.step_engine.proofs.Names.{ap, arith, cases_eq, cond, edge, false, filter, first_number, four, inl, inr, is_block, is_four, is_four-more, is_four-two, kid_at, length, one, refl, square_at, subst, suc, sym, within-made, zero, ℕ}
+use Rattle.step_engine.proofs.Names.{◌+◌, ◌<◌, ◌∙◌, ◌∷◌, ◌≡◌, ◌≢◌, ◌≤◌}
 use Rattle.std.proofs.lemmas.List.Kept.{AllPairs-cons}
-use Rattle.std.proofs.lemmas.Bool.{cases_eq}
 use Rattle.std.proofs.lemmas.Bool.Decides.{nat_tests}
-use Rattle.worlds.specs.World.{World}
-use Rattle.worlds.specs.Square.{Square, one, four, square_at}
-use Rattle.square_table.specs.Squares.{IsNumber, square_in, kid_at, first_number, AreDistinct}
-use Rattle.square_table.specs.Made.{IsMade, AreAmong, HoldsWithin}
-use Rattle.square_table.specs.Centred.{edge}
+use Rattle.square_table.specs.Squares.{IsNumber, square_in}
 use Rattle.square_table.proofs.Shared.Numbers.{one_number, one_level}
-use Rattle.square_table.proofs.Shared.Making.{within-made}
-use Rattle.hash_life.specs.Makes.{Makes}
 use Rattle.hash_life.proofs.Shared.Made.{Makes-weaker}
-use Rattle.hash_engine.specs.Asked.{is_four, picked, places_of_four}
-use Rattle.hash_engine.proofs.Shared.{is_four-two, is_four-more}
-use Rattle.step_engine.specs.Evolved.{is_block, AreDifferent, AreReported}
-use Rattle.step_engine.specs.declared.evolved.Report.{Report}
+use Rattle.hash_engine.specs.Asked.{picked, places_of_four}
 
 first_of : Square → Square
 first_of (one s) = one s

@@ -1,19 +1,11 @@
 -- A square with empty ones round it, join by join.
-use Rattle.std.proofs.Common.{◌∙◌, ◌≡◌, ℕ, suc, ◌+◌, ◌-◌, ◌≤◌, List, [], ◌∷◌, get_or, subst, sym, arith}
-use Rattle.std.specs.Prelude.{Contains}
-use Rattle.std.proofs.lemmas.List.Elements.{All-nil, All-cons}
-use Rattle.worlds.specs.World.{World}
+use Rattle.step_engine.proofs.Names.{Adds-joined, AddsPadded, AddsRound, All-cons, All-nil, AreNumbers-quadrants, Contains, Grows, Grows-then, GrowsBy, GrowsFrom, IsCentred, IsNumber-grows, IsNumber-joined, IsPaddedNumber, IsSquareOf}
+use Rattle.step_engine.proofs.Names.{Keeps-grows, List, StandsFor, Table, Tells, World, [], arith, cells_of, empty_square, four, get_or, kids_at, level_of, number_of, padded, square_in, square_in-grows, square_in-joined}
+use Rattle.step_engine.proofs.Names.{square_in-quadrants, square_of, subst, suc, sym, ℕ, ◌+◌, ◌-◌, ◌∙◌, ◌∷◌, ◌≡◌, ◌≤◌}
 use Rattle.worlds.specs.Square as squares
-use Rattle.worlds.specs.Square.{four, empty_square}
 use Rattle.square_table.specs.declared.square.Square.{Square}
-use Rattle.square_table.specs.Squares.{Table, IsSquareOf, Tells, square_in, square_of, kids_at, Grows, GrowsBy, IsHeld, level_of, number_of, cells_of}
-use Rattle.square_table.specs.Centred.{IsCentred}
+use Rattle.square_table.specs.Squares.{IsHeld}
 use Rattle.square_table.specs.Made.{HoldsWithin}
-use Rattle.square_table.specs.Loading.{GrowsFrom}
-use Rattle.square_table.proofs.Shared.Making.{Adds-joined}
-use Rattle.square_table.proofs.Shared.Growth.{Keeps-grows, Grows-then, IsNumber-grows, square_in-grows, IsNumber-joined, square_in-joined, AreNumbers-quadrants, square_in-quadrants}
-use Rattle.hash_engine.specs.Standing.{StandsFor}
-use Rattle.step_engine.specs.Padded.{padded, IsPaddedNumber, AddsPadded, AddsRound}
 use Rattle.step_engine.proofs.Centring.{IsCentred-padded}
 
 -- what a number stands for it stands for where the table grows

@@ -11,3 +11,4 @@ pub mod Joins
 pub mod Evolving
 pub mod Held
 pub mod Spent
+pub mod Names

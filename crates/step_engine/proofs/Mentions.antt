@@ -1,15 +1,8 @@
 -- The places of listed cells, and the world once they are laid.
-use Rattle.std.proofs.Common.{◌≡◌, ℕ, ◌<◌, true, false, cond, List, [], ◌∷◌, map, refl, ap, ◌∙◌, arith, ℤ, None}
-use Rattle.std.proofs.lemmas.Bool.{cases_Bool}
-use Rattle.std.specs.List.{list_any, AllByRecursion}
+use Rattle.step_engine.proofs.Names.{AllByRecursion, CellSet, List, None, Place, World, [], ap, arith, as_set, blank, cases_Bool, cell, cell-blank, cell-lay, cell-state_at, cond, false, last_mention, lay, list_any, live, live-states, map}
+use Rattle.step_engine.proofs.Names.{of_cell, refl, same_is, same_place, same_world, true, ℕ, ℤ, ◌<◌, ◌∙◌, ◌∷◌, ◌≡◌}
 use Rattle.std.specs.Map.{lookup}
 use Rattle.worlds.specs.declared.cell.Cell.{Cell}
-use Rattle.worlds.specs.declared.cell.CellSet.{CellSet}
-use Rattle.worlds.specs.World.{World, Place, cell, blank, cell-blank, same_place, same_world}
-use Rattle.worlds.specs.Fill.{same_is}
-use Rattle.worlds.specs.Lay.{lay, last_mention, cell-lay}
-use Rattle.worlds.specs.Live.{live, of_cell, cell-state_at, live-states}
-use Rattle.step_engine.specs.Listed.{as_set}
 
 -- the place of a cell that is laid
 abbrev pub place_of : CellSet → Place

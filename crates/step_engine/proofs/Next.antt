@@ -1,20 +1,10 @@
 -- The next generation, once the rule was asked at and around each live cell.
-use Rattle.std.proofs.Common.{◌≡◌, ℕ, ◌<◌, true, false, List, [], ◌∷◌, map, sym, ◌∙◌, subst, arith, lit<, ℤ, pos, ◌+ℤ◌, inl, inr, get_or, take, take_all, length, ◌+◌, ◌≤◌, ◌++◌, append-nil}
-use Rattle.std.proofs.lemmas.Bool.{or_cases, or_left, or_right, cases_Bool}
-use Rattle.std.proofs.lemmas.Int.{ints}
+use Rattle.step_engine.proofs.Names.{AreTogether, Asked, CellSet, HasAsked, List, Place, World, [], append-nil, arith, blank, cases_Bool, cell, cell-blank, cell-fill, cell-live, cell-step, false, fill, flat_map, follows, get_or, inl, inr}
+use Rattle.step_engine.proofs.Names.{ints, is_same, lay, length, list_any, list_any-append, list_any_at, lit<, map, map-append, nine_zeros, or_cases, or_left, or_right, places_around, pos, same_is, same_place, same_place-itself, same_world}
+use Rattle.step_engine.proofs.Names.{step, step-fill, subst, sym, take, take_more, true, ℕ, ℤ, ◌++◌, ◌+ℤ◌, ◌+◌, ◌<◌, ◌∙◌, ◌∷◌, ◌≡◌, ◌≤◌}
+use Rattle.std.proofs.Common.{take_all}
 use Rattle.std.proofs.lemmas.Grind.{flat_map-append}
-use Rattle.std.proofs.lemmas.List.{take_more, map-append}
-use Rattle.std.proofs.lemmas.List.Folds.{list_any-append, list_any_at}
-use Rattle.std.specs.List.{list_any, flat_map}
 use Rattle.std.specs.FinMap as finite
-use Rattle.worlds.specs.declared.cell.CellSet.{CellSet}
-use Rattle.worlds.specs.World.{World, Place, cell, blank, cell-blank, cell-live, same_place, same_place-itself, same_world}
-use Rattle.worlds.specs.Fill.{fill, cell-fill, same_is, is_same}
-use Rattle.worlds.specs.Lay.{lay}
-use Rattle.worlds.specs.Step.{step, nine_zeros, places_around, cell-step, step-fill}
-use Rattle.step_engine.specs.declared.asked.Asked.{Asked}
-use Rattle.step_engine.specs.Generation.{AreTogether}
-use Rattle.step_engine.specs.Asked.{follows, HasAsked}
 use Rattle.step_engine.proofs.Mentions.{place_of, cell-unmentioned, live-mentioned}
 
 -- what is around a listed place is among what is around all of them

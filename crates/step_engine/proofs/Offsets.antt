@@ -1,12 +1,6 @@
 -- The offsets as the code lists them.
-use Rattle.std.proofs.Common.{◌≡◌, ℕ, ◌<◌, List, [], ◌∷◌, get_or, ℤ, pos, negsuc, ◌+ℤ◌, arith}
-use Rattle.std.specs.List.{AllByRecursion}
-use Rattle.std.proofs.lemmas.Int.{ints}
-use Rattle.std.proofs.lemmas.List.{get_or-map}
-use Rattle.std.proofs.lemmas.List.Elements.{All-get_or, All-from_recursion}
+use Rattle.step_engine.proofs.Names.{All-from_recursion, All-get_or, AllByRecursion, List, Place, World, [], arith, around, cell, get_or, get_or-map, ints, negsuc, places_around, pos, ℕ, ℤ, ◌+ℤ◌, ◌<◌, ◌∷◌, ◌≡◌}
 use Rattle.step_engine.specs.declared.spot.Spot.{Spot}
-use Rattle.worlds.specs.World.{World, Place, cell}
-use Rattle.worlds.specs.Step.{around, places_around}
 use Rattle.worlds.specs.Near.{IsNear}
 
 abbrev pub spots : List Spot

@@ -1,14 +1,8 @@
 -- How far activity comes.
-use Rattle.std.proofs.Common.{◌≡◌, ℕ, zero, suc, ◌+◌, ◌<◌, ◌≤◌, List, arith, ◌+ℤ◌, inl, inr}
-use Rattle.std.proofs.lemmas.Int.{ints}
-use Rattle.worlds.specs.World.{World, cell, blank, cell-blank}
-use Rattle.worlds.specs.Range.{IsBoundingBox}
-use Rattle.worlds.specs.declared.cell.Bounds.{Bounds}
-use Rattle.worlds.specs.Step.{step, nine_zeros}
+use Rattle.step_engine.proofs.Names.{Bounds, BoxLiesWithin, IsBoundingBox, LiesWithin, List, World, arith, blank, cell, cell-blank, inl, inr, ints, nine_zeros, step, suc, zero, ℕ, ◌+ℤ◌, ◌+◌, ◌<◌, ◌≡◌, ◌≤◌}
 use Rattle.worlds.specs.Iterate.{iterate}
 use Rattle.worlds.proofs.Shared.Local.{cell-step-none}
 use Rattle.plane_core.proofs.Shared.Cells.{in_or_out}
-use Rattle.step_engine.specs.Reach.{LiesWithin, BoxLiesWithin}
 
 LiesWithin-step : (far : ℕ) (next : List ℕ → ℕ) (w : World) → next nine_zeros ≡ 0 → LiesWithin far w → LiesWithin (suc far) (step next w)
 LiesWithin-step far next w quiet h x y live = elim (in_or_out (suc far + suc far) _ _ x y) [

@@ -1,10 +1,5 @@
 -- Places in a square with room around a cell, and in the greatest one.
-use Rattle.std.proofs.Common.{◌≡◌, ℕ, subst, arith, List, ℤ, pos, ◌+ℤ◌, ◌-ℤ◌, ◌≤ℤ◌}
-use Rattle.std.specs.Prelude.{All}
-use Rattle.std.proofs.lemmas.Int.{ints}
-use Rattle.worlds.specs.declared.cell.CellSet.{CellSet}
-use Rattle.square_tree.specs.Cells.{IsHeld}
-use Rattle.step_engine.specs.Room.{HasRoomAround, CellHasRoom}
+use Rattle.step_engine.proofs.Names.{All, CellHasRoom, CellSet, HasRoomAround, IsHeld, List, arith, ints, pos, subst, ℕ, ℤ, ◌+ℤ◌, ◌-ℤ◌, ◌≡◌, ◌≤ℤ◌}
 
 -- a place at or around the cell
 pub held_near : (l : ℕ) (x y x' y' : ℤ) → HasRoomAround l x y → (x -ℤ pos 1) ≤ℤ x' → x' ≤ℤ (x +ℤ pos 1) → (y -ℤ pos 1) ≤ℤ y' → y' ≤ℤ (y +ℤ pos 1) → IsHeld l x' y'

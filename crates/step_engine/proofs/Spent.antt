@@ -1,28 +1,13 @@
 -- What an engine made on its way, from what its table grew by.
-use Rattle.std.proofs.Common.{◌≡◌, ℕ, suc, ◌+◌, ◌-◌, ◌≤◌, ◌^◌, min, List, length, sym, ap, ◌∙◌, arith}
-use Rattle.std.proofs.lemmas.Int.{ints}
-use Rattle.worlds.specs.World.{World}
-use Rattle.worlds.specs.Step.{step, nine_zeros}
-use Rattle.worlds.specs.Iterate.{iterate}
-use Rattle.worlds.specs.Range.{HasMargin, AllBelow}
+use Rattle.step_engine.proofs.Names.{AddsRound, AddsStart, AllBelow, AreAmong, AreDistinct, AreReported, Grows, Grows-then, GrowsFor, HasMargin, HasPut, HasRoomFor, HasWay, IsCentred, IsFull, IsMade, IsNumber, IsNumber-grows, IsRoomLevel}
+use Rattle.step_engine.proofs.Names.{IsRootLevel, IsRooted, IsWidened, List, Makes, Report, Table, World, ap, arith, cells_of, edge, ints, iterate, length, level_of, min, nine_zeros, number_of, places_of_four, square_at, square_in-grows}
+use Rattle.step_engine.proofs.Names.{step, suc, sym, ℕ, ◌+◌, ◌-◌, ◌^◌, ◌∙◌, ◌≡◌, ◌≤◌}
 use Rattle.worlds.specs.Square as squares
-use Rattle.worlds.specs.Square.{square_at}
 use Rattle.plane_core.specs.Rows.{Fits}
 use Rattle.hash_life.specs.Puts.{PutsBlocks}
-use Rattle.hash_life.specs.Makes.{Makes}
 use Rattle.square_table.specs.declared.square.Square.{Square}
-use Rattle.square_table.specs.Squares.{Table, IsNumber, Grows, AreDistinct, level_of, number_of, cells_of}
-use Rattle.square_table.specs.Centred.{edge, IsCentred}
-use Rattle.square_table.specs.Made.{IsMade, AreAmong, IsFull}
-use Rattle.square_table.specs.Loading.{GrowsFor, IsRootLevel}
-use Rattle.square_table.proofs.Shared.Growth.{Grows-then, IsNumber-grows, square_in-grows}
 use Rattle.hash_engine.specs.Adding.{GrowsOnWay}
-use Rattle.hash_engine.specs.Asked.{places_of_four}
 use Rattle.hash_engine.specs.Found.{CanBeAsked, IsLater}
-use Rattle.step_engine.specs.declared.evolved.Report.{Report}
-use Rattle.step_engine.specs.Reach.{HasRoomFor, IsRoomLevel}
-use Rattle.step_engine.specs.Padded.{AddsRound, AddsStart, IsRooted, IsWidened}
-use Rattle.step_engine.specs.Evolved.{HasWay, AreReported, HasPut}
 use Rattle.step_engine.specs.Kept.{SpendsNew}
 use Rattle.step_engine.proofs.Reaching.{LiesWithin-more, LiesWithin-iterate}
 use Rattle.step_engine.proofs.Centring.{edge-suc, IsCentred-result}

@@ -1,16 +1,8 @@
 -- The list and the patch of a generation, and those with which the first one begins.
-use Rattle.std.proofs.Common.{◌≡◌, ℕ, ◌+◌, ◌<◌, List, map, ap, ◌∙◌, subst, sym, arith, ℤ, unwrap_or, get_or, take, length}
-use Rattle.std.specs.Prelude.{All}
-use Rattle.std.proofs.lemmas.List.{take_more}
-use Rattle.std.proofs.lemmas.List.Elements.{All-from_recursion, All-map, recursion_from_All}
+use Rattle.step_engine.proofs.Names.{All, All-from_recursion, All-map, AreTogether, CellSet, Cells, HasMargin, IsHeld, IsInside, List, World, ap, arith, blank, cell, cell-put, get_or, lay, lay-push, length, live, live-states, map}
+use Rattle.step_engine.proofs.Names.{places_total, recursion_from_All, state_at, subst, sym, take, take_more, unwrap_or, ℕ, ℤ, ◌+◌, ◌<◌, ◌∙◌, ◌≡◌}
 use Rattle.std.specs.FinMap as finite
-use Rattle.worlds.specs.declared.cell.CellSet.{CellSet}
-use Rattle.worlds.specs.World.{World, cell, blank, cell-put, places_total}
-use Rattle.worlds.specs.Lay.{lay, lay-push}
-use Rattle.worlds.specs.Live.{live, live-states}
-use Rattle.worlds.specs.Range.{IsInside, HasMargin}
-use Rattle.square_tree.specs.Cells.{Cells, IsHeld, state_at, put}
-use Rattle.step_engine.specs.Generation.{AreTogether}
+use Rattle.square_tree.specs.Cells.{put}
 use Rattle.step_engine.proofs.Mentions.{IsListedIn, set_of, live-mentioned, each_mentioned, lay-live}
 
 -- no cell outside the patch's square is live

@@ -1,11 +1,5 @@
 -- The faults of a table's head, of which none is 'out of memory'.
-use Rattle.std.proofs.Common.{ℕ, List, [], ◌∷◌, arith, Ok}
-use Rattle.basics.specs.Results.{◌>>=◌}
-use Rattle.rule_file.proofs.Shared.Readings.{WantsNone}
-use Rattle.rule_file.specs.RuleFile.{NumberedLine}
-use Rattle.table_lines.specs.declared.descriptors.Descriptor.{Descriptor}
-use Rattle.table_lines.specs.declared.descriptors.Head.{Head}
-use Rattle.table_lines.specs.Descriptors.{Described, describe, descriptor_of, head_from, head_of}
+use Rattle.table_lines.proofs.Names.{Described, Descriptor, Head, List, NumberedLine, Ok, WantsNone, [], arith, describe, descriptor_of, head_from, head_of, ℕ, ◌>>=◌, ◌∷◌}
 use Rattle.table_lines.proofs.Steps.{step-none}
 
 describe-none : (d : Described) (number : ℕ) (x : Descriptor) (value : List ℕ) → WantsNone (describe d number x value)

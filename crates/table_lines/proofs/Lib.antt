@@ -7,3 +7,4 @@ mod Splits
 mod Steps
 mod Unions
 mod WrittenEntries
+pub mod Names

@@ -1,17 +1,8 @@
 -- Two descriptors, one after the other, may stand in the other order.
-use Rattle.std.proofs.Common.{◌≡◌, ℕ, true, List, [], ◌∷◌, ◌++◌, Option, Some, None, Result, is_some, arith}
-use Rattle.std.specs.List.{list_all}
-use Rattle.std.proofs.lemmas.Bool.{and_parts}
-use Rattle.basics.specs.Results.{◌>>=◌}
-use Rattle.rule_file.specs.declared.fault.RuleFault.{RuleFault}
-use Rattle.rule_file.specs.RuleFile.{NumberedLine}
-use Rattle.table_lines.specs.declared.descriptors.Descriptor.{Descriptor}
-use Rattle.table_lines.specs.declared.descriptors.Head.{Head}
+use Rattle.table_lines.proofs.Names.{Described, Descriptor, DescriptorsInAnyOrder, GivesToo, Head, List, None, NumberedLine, Option, Result, RuleFault, Some, [], and_parts, arith, describe, descriptor_of, head_from, is_descriptor, is_some}
+use Rattle.table_lines.proofs.Names.{list_all, then_too, true, ℕ, ◌++◌, ◌>>=◌, ◌∷◌, ◌≡◌}
 use Rattle.table_lines.specs.declared.descriptors.Descriptor.TheVariants as descriptor
-use Rattle.table_lines.specs.Descriptors.{Described, describe, descriptor_of, head_from}
-use Rattle.table_lines.specs.LineLaws.{DescriptorsInAnyOrder, is_descriptor}
 use Rattle.table_lines.proofs.Steps.{step, step-later}
-use Rattle.rule_file.proofs.Shared.Readings.{GivesToo, then_too}
 
 abbrev Found : Type 0
 Found = Head × List NumberedLine

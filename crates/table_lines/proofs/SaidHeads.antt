@@ -1,17 +1,7 @@
 -- The head that lines describe: how many states it has, and that its symmetry is one of its neighbourhood.
-use Rattle.std.proofs.Common.{◌≡◌, ℕ, ◌≤◌, Bool, true, List, [], ◌∷◌, length, Some, Ok, arith}
-use Rattle.std.specs.Prelude.{find, IfSome}
-use Rattle.std.proofs.lemmas.Bool.Decides.{nat_tests}
-use Rattle.basics.specs.Results.{◌>>=◌}
-use Rattle.rule_file.specs.RuleFile.{NumberedLine}
-use Rattle.rule_file.specs.States.{MayHaveStates, states_in}
-use Rattle.table_lines.specs.declared.descriptors.Descriptor.{Descriptor}
-use Rattle.table_lines.specs.declared.descriptors.Head.{Head}
-use Rattle.table_lines.specs.Descriptors.{Described, describe, descriptor_of, head_from, head_of}
-use Rattle.table_lines.specs.declared.symmetry.Symmetry.{Symmetry}
-use Rattle.table_lines.specs.declared.neighborhood.Neighborhood.{Neighborhood}
+use Rattle.table_lines.proofs.Names.{Bool, Described, Descriptor, Head, IfSome, List, MayHaveStates, Neighborhood, NumberedLine, Ok, Some, Symmetry, [], arith, describe, descriptor_of, find, head_from, head_of, length, name_of_symmetry}
+use Rattle.table_lines.proofs.Names.{nat_tests, states_in, symmetry_named, true, ℕ, ◌>>=◌, ◌∷◌, ◌≡◌, ◌≤◌}
 use Rattle.table_lines.proofs.Steps.{by_step}
-use Rattle.table_lines.specs.Symmetry.{name_of_symmetry, symmetry_named}
 
 -- what was described of the states is within the limits
 abbrev pub HasStates : Described → Type 0

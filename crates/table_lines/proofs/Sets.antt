@@ -1,21 +1,10 @@
 -- What a change of its words does to a set.
-use Rattle.std.proofs.Common.{◌≡◌, ℕ, zero, suc, ◌*◌, ◌/◌, ◌%◌, ◌^◌, ◌<◌, Bool, ◌||◌, List, [], ◌∷◌, length, get_or, refl, sym, ap, nat_eq, ◌∙◌, arith}
-use Rattle.std.specs.Prelude.{◌==◌}
-use Rattle.std.specs.Int.{bit_at}
+use Rattle.table_lines.proofs.Names.{AreWords, Bool, List, [], ap, arith, bit_at, bit_at-lt, bit_at-zero, bit_at_or, bit_at_set_other, bit_at_set_same, bytes_decides, bytes_eq-Decides, filter, get_or, get_or-set_at, get_or-set_other, has}
+use Rattle.table_lines.proofs.Names.{has-rising, is_bit_set, length, length-set, nat_eq, nat_tests, or_lt, pointwise, range_with_len, refl, rising-agree, rising_none, same_from_decides, same_set, set, suc, sym, words-kept, words_of, zero}
+use Rattle.table_lines.proofs.Names.{ℕ, ◌%◌, ◌*◌, ◌/◌, ◌<◌, ◌==◌, ◌^◌, ◌||◌, ◌∙◌, ◌∷◌, ◌≡◌}
 use Rattle.std.specs.Int.RustNames.{bit_or}
-use Rattle.std.specs.List.{filter, range_with_len}
-use Rattle.std.proofs.Math.ListN.{set, length-set}
-use Rattle.std.proofs.lemmas.Bool.Decides.{nat_tests, same_from_decides}
-use Rattle.std.proofs.lemmas.Slice.Eq.{bytes_eq-Decides}
-use Rattle.std.proofs.lemmas.Nat.{or_lt}
-use Rattle.std.proofs.lemmas.Grind.{get_or-set_at}
-use Rattle.std.specs.Cmp.Lexicographic.{pointwise}
-use lib.Pointwise.{bytes_decides}
-use Rattle.std.proofs.Common.{get_or-set_other}
-use Rattle.std.proofs.lemmas.Nat.Bits.{bit_at_or, bit_at_set_same, bit_at_set_other, bit_at-lt, bit_at-zero}
 use mir.Syntax.{w64}
-use Rattle.table_lines.specs.States.{AreWords, has, is_bit_set, rising, same_set, words_of}
-use Rattle.table_lines.specs.StateWords.{has-rising, rising-agree, rising_none, words-kept}
+use Rattle.table_lines.specs.States.{rising}
 
 -- what holds at four places holds at each below 4
 at_four : (P : ℕ → Type 0) → P 0 → P 1 → P 2 → P 3 → (q : ℕ) → q < 4 → P q

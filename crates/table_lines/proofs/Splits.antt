@@ -1,11 +1,5 @@
 -- What stands between commas, one after another.
-use Rattle.std.proofs.Common.{◌≡◌, ℕ, ◌+◌, ◌==◌, List, [], ◌∷◌, length, map, take, drop, count_by, Some, None, position, ap, ◌∙◌}
-use Rattle.std.specs.List.{slice_split}
-use Rattle.std.proofs.lemmas.List.{length-map}
-use Rattle.std.proofs.lemmas.List.Splits.{length-slice_split}
-use Rattle.text_lines.specs.Blanks.{trim}
-use Rattle.text_lines.proofs.Shared.Pieces.{split-some, split-none}
-use Rattle.table_lines.specs.Fields.{parts}
+use Rattle.table_lines.proofs.Names.{List, None, Some, [], ap, count_by, drop, length, length-map, length-slice_split, map, parts, position, slice_split, split-none, split-some, take, trim, ℕ, ◌+◌, ◌==◌, ◌∙◌, ◌∷◌, ◌≡◌}
 
 pub parts-some : (line : List ℕ) (n : ℕ) → position (λ b. b == 44) line ≡ Some n → parts line ≡ trim (take n line) ∷ parts (drop (n + 1) line)
 parts-some line n h = ap (map trim) (split-some (λ b. b == 44) line n h)

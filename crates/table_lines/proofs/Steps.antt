@@ -1,10 +1,5 @@
 -- One line of a head and what comes behind it: where the line is a descriptor, a first reading and then a later one, and else another.
-use Rattle.std.proofs.Common.{◌≡◌, true, Option, Result, Ok, is_some, arith}
-use Rattle.std.specs.Option.{option_map_or}
-use Rattle.basics.specs.Results.{◌>>=◌}
-use Rattle.rule_file.specs.declared.fault.RuleFault.{RuleFault}
-use Rattle.rule_file.proofs.Shared.Readings.{GivesToo, WantsNone}
-use Rattle.table_lines.specs.Descriptors.{Described}
+use Rattle.table_lines.proofs.Names.{Described, GivesToo, Ok, Option, Result, RuleFault, WantsNone, arith, is_some, option_map_or, true, ◌>>=◌, ◌≡◌}
 
 -- the reading of such a line
 abbrev pub step : {A X : Type 0} → Option X → (X → Result Described RuleFault) → (Described → Result A RuleFault) → Result A RuleFault → Result A RuleFault

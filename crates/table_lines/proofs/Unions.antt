@@ -1,19 +1,8 @@
 -- The set of a definition, a member at a time.
-use Rattle.std.proofs.Common.{◌≡◌, ℕ, Bool, true, false, ◌||◌, ◌&&◌, List, [], ◌∷◌, ◌++◌, if◌then◌else◌, Some, None, Result, Ok, Err, refl, sym, ap, ◌∙◌, append_assoc, arith, nat_lt}
-use Rattle.std.specs.List.{filter, list_all, list_any, range_with_len}
-use Rattle.std.proofs.lemmas.Bool.Decides.{nat_tests}
-use Rattle.std.proofs.Math.Bool.{or-false}
-use Rattle.rule_file.specs.declared.fault.RuleFault.{RuleFault}
-use Rattle.rule_file.specs.declared.fault.RuleFault.TheVariants.{StateTooHigh}
-use Rattle.basics.specs.Results.{◌>>=◌}
-use Rattle.rule_file.specs.RuleFile.{NumberedLine}
-use Rattle.table_lines.specs.declared.descriptors.Head.{Head}
-use Rattle.table_lines.specs.Below.{VariablesBelow, all_below}
-use Rattle.table_lines.specs.Definitions.{member_set, unless_too_high}
-use Rattle.table_lines.specs.Entries.{behind}
-use Rattle.table_lines.specs.States.{has, rising}
-use Rattle.table_lines.specs.Variables.{Variables, are_below, each, set_of, states_or_fault, union, variables_after}
-use Rattle.table_lines.specs.StateWords.{has-rising, rising-agree, rising_none}
+use Rattle.table_lines.proofs.Names.{Bool, Err, Head, List, None, NumberedLine, Ok, Result, RuleFault, Some, StateTooHigh, Variables, VariablesBelow, [], all_below, ap, append_assoc, are_below, arith, behind, each, false, filter, has}
+use Rattle.table_lines.proofs.Names.{has-rising, if◌then◌else◌, list_all, list_any, member_set, nat_lt, nat_tests, or-false, range_with_len, refl, rising-agree, rising_none, set_of, states_or_fault, sym, true, union, unless_too_high}
+use Rattle.table_lines.proofs.Names.{variables_after, ℕ, ◌&&◌, ◌++◌, ◌>>=◌, ◌||◌, ◌∙◌, ◌∷◌, ◌≡◌}
+use Rattle.table_lines.specs.States.{rising}
 
 -- all states of a union are below n, if those of each set are
 has-below : (n : ℕ) (set : List ℕ) (s : ℕ) → all_below n set ≡ true → has set s ≡ true → nat_lt s n ≡ true

@@ -1,24 +1,9 @@
 -- Entries that are written read back.
-use Rattle.std.proofs.Common.{◌≡◌, refl, ℕ, ◌<◌, ◌≤◌, ◌^◌, ◌==◌, false, List, [], ◌∷◌, length, map, Some, Ok, decimal, arith, length-append}
+use Rattle.table_lines.proofs.Names.{All, All-from_recursion, AllByRecursion, Entry, IsDigit, IsEntryOf, IsVisible, IsWide, List, Ok, OneOf, Some, State, Variables, [], all_append, all_so, and-false, arith, decimal, decimal-bytes}
+use Rattle.table_lines.proofs.Names.{decimal-some, defines_variable, differs, digit-test, digit-visible, each, entry_of, entry_text, false, fields, join_with_byte, length, length-append, line-visible, map, nat_tests, number_of-decimal}
+use Rattle.table_lines.proofs.Names.{or-true, parts, refl, slice_index_or, slice_split_at, slice_split_none, trim, variable_name, ℕ, ◌<◌, ◌==◌, ◌^◌, ◌∷◌, ◌≡◌, ◌≤◌}
 use Rattle.std.specs.Char.{is_ascii_digit}
-use Rattle.std.specs.Prelude.{slice_index_or}
-use Rattle.std.specs.List.{All, AllByRecursion, join_with_byte}
-use Rattle.std.proofs.Math.Bool.{and-false, or-true}
-use Rattle.std.proofs.lemmas.Bool.Decides.{nat_tests}
-use Rattle.std.proofs.lemmas.List.Elements.{All-from_recursion}
 use Rattle.std.proofs.lemmas.List.Folds.{list_any-append}
-use Rattle.std.proofs.lemmas.List.Splits.{slice_split_at, slice_split_none}
-use Rattle.basics.proofs.Shared.Lists.{all_append, all_so}
-use Rattle.text_lines.specs.Blanks.{trim}
-use Rattle.text_lines.proofs.Shared.ByteRanges.{IsDigit, IsVisible, differs, digit-test, digit-visible}
-use Rattle.text_lines.proofs.Shared.Decimals.{IsWide, decimal-bytes, decimal-some, number_of-decimal}
-use Rattle.text_lines.proofs.Shared.PrintedLines.{line-visible}
-use Rattle.table_lines.specs.declared.transition.Entry.{Entry}
-use Rattle.table_lines.specs.declared.transition.Entry.TheVariants.{State, OneOf}
-use Rattle.table_lines.specs.Fields.{fields, parts}
-use Rattle.table_lines.specs.Transitions.{entry_of}
-use Rattle.table_lines.specs.Variables.{Variables, defines_variable, each}
-use Rattle.table_lines.specs.WrittenTable.{IsEntryOf, entry_text, variable_name}
 
 -- a digit is no other byte
 pub digit-apart : (c : ℕ) → is_ascii_digit c ≡ false → (b : ℕ) → IsDigit b → (b == c) ≡ false

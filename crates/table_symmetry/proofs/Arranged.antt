@@ -1,11 +1,7 @@
 -- Lists of sets, compared.
-use Rattle.std.proofs.Common.{◌≡◌, ℕ, ◌+◌, ◌<◌, true, false, ◌||◌, List, [], ◌∷◌, ◌++◌, Vec, Global, length, take, get_or, refl, sym, ◌∙◌, arith}
-use Rattle.std.specs.List.{list_any}
-use Rattle.std.proofs.lemmas.List.{map-append, take_more}
+use Rattle.table_symmetry.proofs.Names.{Global, List, Vec, [], arith, bytes_decides, false, get_or, length, list_any, lists_in, map-append, pointwise_decides, refl, same_sets, sym, take, take_more, true, with_one, ℕ, ◌++◌, ◌+◌, ◌<◌, ◌||◌}
+use Rattle.table_symmetry.proofs.Names.{◌∙◌, ◌∷◌, ◌≡◌}
 use Rattle.indexmap.specs.IndexSet.{insert_key}
-use Rattle.table_symmetry.specs.Expanded.{same_sets}
-use Rattle.table_symmetry.specs.Grown.{lists_in, with_one}
-use lib.Pointwise.{pointwise_decides, bytes_decides}
 
 pub same_sets_decides : (x y : List (List ℕ)) → (same_sets x y ≡ true → x ≡ y) × (x ≡ y → same_sets x y ≡ true)
 same_sets_decides = pointwise_decides bytes_decides

@@ -1,17 +1,9 @@
 -- The arrangements of a list: they put places, whatever stands there, and are as long as the list.
-use Rattle.std.proofs.Common.{◌≡◌, ℕ, suc, ◌+◌, ◌*◌, ◌/◌, ◌==◌, Bool, true, ◌&&◌, List, [], ◌∷◌, ◌++◌, length, map, take, drop, get_or, arith, refl, sym, ap, ◌∙◌}
-use Rattle.std.specs.Prelude.{All}
-use Rattle.std.specs.List.{filter, flat_map, list_all, range_with_len, take-map, drop-map}
+use Rattle.table_symmetry.proofs.Names.{All, All-map, Bool, List, Symmetry, [], ap, arith, arrangements, drop, drop-map, eq-eqb, filter, flat_map, get_or, insertions, length, length-append, length-drop, length-map, length-reverse}
+use Rattle.table_symmetry.proofs.Names.{length-take, list_all, list_all-append, list_all-from_AllPass, map, map-append, mirrored, nat_tests, permutations, range_with_len, refl, suc, sym, take, take-map, true, turned, turns, ℕ, ◌&&◌, ◌*◌}
+use Rattle.table_symmetry.proofs.Names.{◌++◌, ◌+◌, ◌/◌, ◌==◌, ◌∙◌, ◌∷◌, ◌≡◌}
 use Rattle.indexmap.proofs.ReorderLemmas.{map-reverse}
-use Rattle.std.proofs.lemmas.Bool.{eq-eqb}
-use Rattle.std.proofs.lemmas.Bool.Decides.{nat_tests}
-use Rattle.std.proofs.lemmas.List.{map-append, length-append, length-drop, length-map, length-reverse, length-take}
-use Rattle.std.proofs.lemmas.List.Elements.{All-map}
-use Rattle.std.proofs.lemmas.List.Folds.{list_all-append}
-use Rattle.std.proofs.lemmas.List.Sums.{list_all-from_AllPass}
 use Rattle.std.proofs.lemmas.Simd.{map-map}
-use Rattle.table_lines.specs.declared.symmetry.Symmetry.{Symmetry}
-use Rattle.table_symmetry.specs.Circle.{turned, turns, mirrored, insertions, permutations, arrangements}
 
 map_both : {A B C : Type 0} (g : A → C) (f : B → C) (h : A → B) → ((x : A) → g x ≡ f (h x)) → (xs : List A) → map g xs ≡ map f (map h xs)
 map_both g f h e xs = (λ i. map (λ x. e x i) xs) ∙ sym (map-map f h xs)

@@ -1,15 +1,8 @@
 -- Words of bits: those of a column tell which rows have a state.
-use Rattle.std.proofs.Common.{◌≡◌, ◌≢◌, ℕ, zero, suc, ◌+◌, ◌*◌, ◌/◌, ◌%◌, ◌^◌, ◌<◌, ◌≤◌, List, [], ◌∷◌, ◌++◌, length, get_or, ap, ◌∙◌, inl, inr, arith}
-use Rattle.std.specs.Int.{bit_at}
+use Rattle.table_symmetry.proofs.Names.{Expanded, HasBits, List, TellsRows, [], ap, arith, bit_at, bit_at-lt, bit_at-zero, bit_at_or, bit_at_set_other, bit_at_set_same, cases_lt, get_or, get_or-map, get_or_append_left, get_or_push, inl}
+use Rattle.table_symmetry.proofs.Names.{inr, length, length-map, length_push, set_at, suc, w64, word_of, word_of_each, zero, ℕ, ◌%◌, ◌*◌, ◌++◌, ◌+◌, ◌/◌, ◌<◌, ◌^◌, ◌∙◌, ◌∷◌, ◌≡◌, ◌≢◌, ◌≤◌}
 use Rattle.std.specs.Int.RustNames.{bit_or}
-use Rattle.std.proofs.lemmas.Bool.{cases_lt}
-use Rattle.std.proofs.lemmas.List.{get_or_append_left, get_or_push, length_push, length-map, get_or-map}
-use Rattle.std.proofs.lemmas.Nat.Bits.{bit_at_or, bit_at_set_same, bit_at_set_other, bit_at-zero, bit_at-lt}
-use Rattle.table_symmetry.specs.declared.expansion.Expanded.{Expanded}
-use Rattle.table_symmetry.specs.Lookup.{HasBits, TellsRows, set_at, word_of_each}
-use Rattle.table_lines.specs.States.{word_of}
 use Rattle.table_lines.proofs.Shared.WordBits.{bit-word}
-use mir.Syntax.{w64}
 
 -- a bit put at a place of a word where there is none
 put_bit : (n b p : ℕ) → b < 2 → p < 64 → bit_at n p ≡ 0

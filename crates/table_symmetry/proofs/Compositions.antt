@@ -1,9 +1,7 @@
 -- The maps of each symmetry are all compositions of its generators.
-use Rattle.std.proofs.Common.{ℕ, List, [], ◌∷◌, ◌++◌, map, replicate, refl}
-use Rattle.std.specs.List.{range_with_len}
+use Rattle.table_symmetry.proofs.Names.{List, SymmetriesAreGenerated, [], east, eight_reversed, eighth, four_reversed, half, map, quarter, range_with_len, refl, replicate, six_reversed, sixth, third, two_eighths, west, ℕ, ◌++◌, ◌∷◌}
 use Rattle.table_lines.specs.declared.neighborhood.Neighborhood.TheVariants.{VonNeumann, Moore, Hexagonal, OneDimensional}
 use Rattle.table_lines.specs.declared.symmetry.Symmetry.TheVariants.{None, Rotate2, Rotate3, Rotate4, Rotate6, Rotate8, Rotate4Reflect, Rotate6Reflect, Rotate8Reflect, ReflectHorizontal, Reflect, Permute}
-use Rattle.table_symmetry.specs.Generators.{SymmetriesAreGenerated, eight_reversed, eighth, four_reversed, half, quarter, six_reversed, sixth, third, two_eighths, east, west}
 
 -- a turn, repeated
 abbrev repeated : ℕ → List ℕ → List (List (List ℕ))

@@ -1,14 +1,6 @@
 -- Lists in which each element stands once.
-use Rattle.std.proofs.Common.{◌≡◌, ℕ, ◌+◌, map, Bool, true, false, not, cond, ◌||◌, List, [], ◌∷◌, ◌++◌, refl, sym, ap, subst, ◌∙◌, append_assoc, arith}
-use Rattle.std.specs.List.{filter, list_any, flat_map, range_with_len}
-use Rattle.std.proofs.Math.Bool.{or-true}
-use Rattle.std.proofs.lemmas.Grind.{flat_map-append}
-use Rattle.std.proofs.lemmas.List.{append-nil}
-use Rattle.std.proofs.lemmas.List.Elements.{filter-append}
-use Rattle.std.proofs.lemmas.List.FromFn.{map-range_with_len_more}
-use Rattle.std.proofs.lemmas.List.Folds.{list_any-append}
-use Rattle.table_symmetry.specs.Expanded.{distinct}
-use Rattle.table_symmetry.specs.Grown.{with_one, with_all}
+use Rattle.table_symmetry.proofs.Names.{Bool, List, [], ap, append-nil, append_assoc, arith, cond, distinct, false, filter, filter-append, flat_map, flat_map-append, list_any, list_any-append, map, map-range_with_len_more, not, or-true}
+use Rattle.table_symmetry.proofs.Names.{range_with_len, refl, subst, sym, true, with_all, with_one, ℕ, ◌++◌, ◌+◌, ◌||◌, ◌∙◌, ◌∷◌, ◌≡◌}
 
 module _ {X : Type 0} (E : X → X → Bool) (decides : (x y : X) → (E x y ≡ true → x ≡ y) × (x ≡ y → E x y ≡ true)) where
   -- a test is passed by one of the others, or by one of all, where it isn't by this one

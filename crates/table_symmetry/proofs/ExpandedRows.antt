@@ -1,21 +1,7 @@
 -- What holds of each expanded transition: it has the inputs of its transition, and its result is a state.
-use Rattle.std.proofs.Common.{◌≡◌, ℕ, ◌<◌, ◌==◌, ◌&&◌, Bool, true, nat_lt, not, List, [], ◌∷◌, length, take, drop, refl, ap, arith, rules, tests}
-use Rattle.std.specs.Prelude.{All, slice_index_or}
-use Rattle.std.specs.List.{flat_map, list_all}
-use Rattle.std.proofs.lemmas.Bool.{and_parts, eqb-true}
-use Rattle.std.proofs.lemmas.Bool.Decides.{nat_tests}
-use Rattle.std.proofs.lemmas.List.{length-append, length-drop, length-map, length-take}
-use Rattle.std.proofs.lemmas.List.Sums.{AllPass-from_list_all, list_all-from_AllPass}
-use Rattle.table_symmetry.specs.declared.expansion.Expanded.{Expanded}
-use Rattle.table_lines.specs.declared.symmetry.Symmetry.{Symmetry}
-use Rattle.table_lines.specs.declared.transition.Variable.{Variable}
-use Rattle.table_lines.specs.declared.transition.Transition.{Transition}
-use Rattle.table_symmetry.specs.Circle.{arrangements}
-use Rattle.table_symmetry.specs.Expanded.{distinct, expanded, expanded_of, expanded_one, same_sets, sets_of}
-use Rattle.table_symmetry.specs.Grown.{row_of}
-use Rattle.table_symmetry.specs.NextState.{admitted, assigned, assignments, bound_in, gives_states, given, is_quiescent, valued}
-use Rattle.table_symmetry.specs.Rule.{is_sound}
-use Rattle.table_symmetry.specs.Table.{Table}
+use Rattle.table_symmetry.proofs.Names.{All, AllPass-from_list_all, Bool, Expanded, List, Symmetry, Table, Transition, Variable, [], admitted, and_parts, ap, arith, arrangements, assigned, assignments, bound_in, distinct, drop, eqb-true}
+use Rattle.table_symmetry.proofs.Names.{expanded, expanded_of, expanded_one, flat_map, given, gives_states, is_quiescent, is_sound, length, length-append, length-drop, length-map, length-take, list_all, list_all-from_AllPass, nat_lt}
+use Rattle.table_symmetry.proofs.Names.{nat_tests, not, refl, row_of, rules, same_sets, sets_of, slice_index_or, take, tests, true, valued, ℕ, ◌&&◌, ◌<◌, ◌==◌, ◌∷◌, ◌≡◌}
 use Rattle.table_symmetry.proofs.Arrangements.{arrangements-length, list_all-filter, list_all-flat_map, list_all-made}
 
 -- what holds of each, by what holds of each transition and of it under each assignment

@@ -1,25 +1,10 @@
 -- A look-up tells which rows match, 64 at a time, and finds what the first of them gives.
-use Rattle.std.proofs.Common.{◌≡◌, ℕ, zero, suc, ◌+◌, ◌-◌, ◌*◌, ◌/◌, ◌%◌, ◌<◌, ◌≤◌, ◌⊎◌, Bool, true, false, ◌&&◌, List, [], ◌∷◌, length, get_or, map, Option, Some, None, refl, sym, ap, ◌∙◌, inl, inr, arith}
-use Rattle.std.specs.Prelude.{◌==◌, bit_and, All, find, slice_get, slice_index, nat_lt, MatchOption}
+use Rattle.table_symmetry.proofs.Names.{All, All-get_or, All-map, AllPass-from_list_all, AreNineBelow, Bool, Expanded, HasColumns, HaveInputs, HoldsAt, IsLookupOf, List, MatchOption, None, Option, Some, TellRows, [], all_have, ap, arith}
+use Rattle.table_symmetry.proofs.Names.{bit_and, bit_at, bit_at-lt, bit_at_and, cases_lt, false, find, first_match, get_or, has, inl, inputs_of, inr, is_bit_set, length, length-map, map, nat_lt, nat_tests, option_copied, option_map}
+use Rattle.table_symmetry.proofs.Names.{places_of, refl, row_has, slice_get, slice_get-get_or, slice_get_past, slice_index, suc, sym, true, zero, ℕ, ◌%◌, ◌&&◌, ◌*◌, ◌+◌, ◌-◌, ◌/◌, ◌<◌, ◌==◌, ◌∙◌, ◌∷◌, ◌≡◌, ◌≤◌, ◌⊎◌}
 use Rattle.std.specs.Borrow.{Bor}
-use Rattle.std.specs.Int.{bit_at}
-use Rattle.std.specs.List.{HoldsAt}
-use Rattle.std.specs.Option.{option_map, option_copied}
-use Rattle.std.proofs.lemmas.Bool.{cases_lt}
-use Rattle.std.proofs.lemmas.Bool.Decides.{nat_tests}
-use Rattle.std.proofs.lemmas.List.{length-map}
-use Rattle.std.proofs.lemmas.List.Elements.{All-get_or, All-map}
-use Rattle.std.proofs.lemmas.List.Sums.{AllPass-from_list_all}
-use Rattle.std.proofs.lemmas.Nat.Bits.{bit_at_and, bit_at-lt}
-use Rattle.std.proofs.lemmas.Option.{slice_get-get_or, slice_get_past}
-use Rattle.worlds.specs.Step.{AreNineBelow}
-use Rattle.table_symmetry.specs.declared.expansion.Expanded.{Expanded}
 use Rattle.table_symmetry.specs.declared.lookup.Lookup.{Lookup}
 use Rattle.table_lines.specs.declared.neighborhood.Neighborhood.{Neighborhood}
-use Rattle.table_symmetry.specs.Expanded.{all_have, first_match}
-use Rattle.table_symmetry.specs.Lookup.{HasColumns, HaveInputs, IsLookupOf, TellRows, row_has}
-use Rattle.table_symmetry.specs.NextState.{inputs_of, places_of}
-use Rattle.table_symmetry.specs.States.{has, is_bit_set}
 use Rattle.table_symmetry.proofs.Columns.{AreRight}
 
 -- the states of the inputs are among those around

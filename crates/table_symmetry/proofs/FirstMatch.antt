@@ -1,17 +1,7 @@
 -- The first expanded transition that matches gives the next state.
-use Rattle.std.specs.Prelude.{◌≡◌, ℕ, ◌&&◌, ◌||◌, Bool, cond, List, [], ◌∷◌, ◌++◌, map, take, drop, find, slice_index, unwrap_or, Some, None}
-use Rattle.std.specs.List.{flat_map, list_any, take-map, drop-map}
-use Rattle.std.specs.Option.{option_map, option_or}
-use Rattle.std.proofs.Common.{arith, refl, sym, ap, ◌∙◌}
-use Rattle.std.proofs.lemmas.List.{map-append}
-use Rattle.table_symmetry.specs.declared.expansion.Expanded.{Expanded}
-use Rattle.table_lines.specs.declared.transition.Entry.{Entry}
-use Rattle.table_lines.specs.declared.transition.Transition.{Transition}
-use Rattle.table_symmetry.specs.Circle.{arrangements}
-use Rattle.table_symmetry.specs.Expanded.{all_have, distinct, expanded, expanded_of, expanded_one, first_match, same_sets, sets_of}
-use Rattle.table_symmetry.specs.NextState.{admitted, all_admit, assignments, first_result, given, inputs_of, matches, next}
-use Rattle.table_symmetry.specs.Table.{Table}
-use Rattle.table_symmetry.specs.States.{has}
+use Rattle.table_symmetry.proofs.Names.{Bool, Entry, Expanded, List, None, Some, Table, Transition, [], admitted, all_admit, all_have, ap, arith, arrangements, assignments, cond, distinct, drop, drop-map, expanded, expanded_of}
+use Rattle.table_symmetry.proofs.Names.{expanded_one, find, first_match, first_result, flat_map, given, has, inputs_of, list_any, map, map-append, matches, next, option_map, option_or, refl, same_sets, sets_of, slice_index, sym, take}
+use Rattle.table_symmetry.proofs.Names.{take-map, unwrap_or, ℕ, ◌&&◌, ◌++◌, ◌||◌, ◌∙◌, ◌∷◌, ◌≡◌}
 use Rattle.table_symmetry.proofs.Arranged.{same_sets_decides}
 use Rattle.table_symmetry.proofs.Distinct.{any-distinct}
 use Rattle.table_symmetry.proofs.Arrangements.{arrangements-map}

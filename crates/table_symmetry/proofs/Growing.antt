@@ -1,17 +1,7 @@
 -- Lists of expanded transitions that grow by those of one more transition, or of one more value.
-use Rattle.std.proofs.Common.{◌≡◌, ℕ, min, drop, ◌+◌, ◌<◌, List, [], ◌∷◌, ◌++◌, length, take, get_or, refl, sym, ap, ◌∙◌, append_assoc, inl, inr, arith}
-use Rattle.std.specs.List.{flat_map}
-use Rattle.std.proofs.lemmas.Grind.{flat_map-append}
-use Rattle.std.proofs.lemmas.List.{append-nil, take_more, length-append}
-use Rattle.std.proofs.lemmas.List.Folds.{length-flat_map-take}
+use Rattle.table_symmetry.proofs.Names.{Expanded, IsTooLong, List, Symmetry, Transition, Variable, [], ap, append-nil, append_assoc, arith, assigned, drop, expanded_one, flat_map, flat_map-append, get_or, inl, inr, length, length-append}
+use Rattle.table_symmetry.proofs.Names.{length-flat_map-take, min, refl, sym, take, take_more, valued, ℕ, ◌++◌, ◌+◌, ◌<◌, ◌∙◌, ◌∷◌, ◌≡◌}
 use Rattle.rule_file.specs.declared.fault.RuleFault.{RuleFault}
-use Rattle.table_symmetry.specs.declared.expansion.Expanded.{Expanded}
-use Rattle.table_lines.specs.declared.symmetry.Symmetry.{Symmetry}
-use Rattle.table_lines.specs.declared.transition.Variable.{Variable}
-use Rattle.table_lines.specs.declared.transition.Transition.{Transition}
-use Rattle.table_symmetry.specs.Expanded.{expanded_one}
-use Rattle.table_symmetry.specs.NextState.{assigned, valued}
-use Rattle.table_symmetry.specs.Grown.{IsTooLong}
 
 -- of a list of lists, those of the inner lists
 flat_map-flat_map : {A B C : Type 0} (g : B → List C) (f : A → List B) (xs : List A) → flat_map g (flat_map f xs) ≡ flat_map (λ x. flat_map g (f x)) xs

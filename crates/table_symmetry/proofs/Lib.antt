@@ -10,3 +10,4 @@ mod Limits
 pub mod Shared
 mod Compositions
 mod Orders
+pub mod Names

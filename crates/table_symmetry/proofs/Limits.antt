@@ -1,18 +1,7 @@
 -- A table within the limits, and one that isn't.
-use Rattle.std.proofs.Common.{◌≡◌, ℕ, Option, unwrap_or, ◌+◌, ◌<◌, ◌≤◌, true, false, nat_lt, List, length, Err, refl, sym, subst, ap, ◌∙◌, arith}
-use Rattle.std.specs.List.{list_all}
-use Rattle.std.proofs.lemmas.Bool.{and_from, eq-eqb, ne_eqb}
-use Rattle.worlds.specs.Step.{nine_zeros}
-use Rattle.std.proofs.lemmas.Bool.Decides.{nat_tests}
-use Rattle.rule_file.specs.declared.fault.RuleFault.TheVariants.{NotQuiescent}
-use Rattle.table_symmetry.specs.declared.expansion.Expanded.{Expanded}
-use Rattle.table_symmetry.specs.Expanded.{expanded, first_match, transition_limit}
-use Rattle.table_symmetry.specs.Kept.{IsKeptTable}
-use Rattle.table_symmetry.specs.NextState.{gives_states, inputs_of, is_quiescent, next, places_of}
+use Rattle.table_symmetry.proofs.Names.{Err, Expanded, IsKeptTable, IsRead, List, NotQuiescent, Option, Table, and_from, ap, arith, eq-eqb, expanded, false, first_match, gives_states, inputs_of, is_quiescent, length, list_all, nat_lt}
+use Rattle.table_symmetry.proofs.Names.{nat_tests, ne_eqb, next, nine_zeros, places_of, refl, subst, sym, transition_limit, true, unwrap_or, within_limits, ℕ, ◌+◌, ◌<◌, ◌∙◌, ◌≡◌, ◌≤◌}
 use Rattle.table_symmetry.specs.Rows.{AreExpanded}
-use Rattle.table_lines.specs.Read.{IsRead}
-use Rattle.table_symmetry.specs.Table.{Table}
-use Rattle.table_symmetry.specs.TableLines.{within_limits}
 use Rattle.table_symmetry.proofs.FirstMatch.{next-expanded}
 use Rattle.table_symmetry.proofs.ExpandedRows.{expanded-below, expanded-length}
 use Rattle.table_symmetry.proofs.Shared.SaidTables.{all_give_states}

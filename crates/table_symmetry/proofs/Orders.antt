@@ -1,17 +1,9 @@
 -- The permutations of a list are exactly its orders.
-use Rattle.std.proofs.Common.{◌≡◌, ℕ, zero, suc, ◌+◌, ◌≤◌, ◌&&◌, ◌||◌, Bool, true, false, not, List, [], ◌∷◌, ◌++◌, length, take, drop, refl, sym, ap, inl, inr, arith}
-use Rattle.std.specs.Prelude.{nat_eq}
-use Rattle.std.specs.List.{list_all}
+use Rattle.table_symmetry.proofs.Names.{Bool, List, PermuteTakesAllOrders, [], ap, arith, bytes_decides, cases_eq, drop, false, get_or-map-range_with_len, inl, inr, insertions, is_among, is_order, length, length-map-range_with_len}
+use Rattle.table_symmetry.proofs.Names.{list_all, list_any_at, nat_eq, nat_tests, not, permutations, refl, suc, sym, take, true, zero, ℕ, ◌&&◌, ◌++◌, ◌+◌, ◌||◌, ◌∷◌, ◌≡◌, ◌≤◌}
 use Rattle.std.specs.Str.{bytes_eq}
-use Rattle.std.proofs.lemmas.Bool.{cases_eq}
-use Rattle.std.proofs.lemmas.Bool.Decides.{nat_tests}
-use Rattle.std.proofs.lemmas.List.Folds.{list_any_at}
-use Rattle.std.proofs.lemmas.List.FromFn.{get_or-map-range_with_len, length-map-range_with_len}
-use lib.Pointwise.{bytes_decides}
 use Rattle.table_lines.specs.Neighborhood.{places_of}
 use Rattle.table_lines.specs.States.{has}
-use Rattle.table_symmetry.specs.Circle.{insertions, permutations}
-use Rattle.table_symmetry.specs.Generators.{PermuteTakesAllOrders, is_among, is_order}
 use Rattle.table_symmetry.proofs.Arrangements.{each_permutation, length-inserted}
 use Rattle.table_symmetry.proofs.Distinct.{any_flat_map}
 

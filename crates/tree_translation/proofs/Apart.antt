@@ -1,7 +1,5 @@
 -- Lists that differ at a place, and faults that are passed on.
-use Rattle.std.proofs.Common.{◌≡◌, ◌≢◌, inl, inr, ℕ, suc, ◌<◌, List, [], ◌∷◌, length, slice_index, refl, sym, subst, arith}
-use Rattle.std.proofs.lemmas.Bool.{cases_eq}
-use Rattle.std.specs.Prelude.{Result, Ok, Err, IfErr, IsErrAnd}
+use Rattle.tree_translation.proofs.Names.{Err, IfErr, IsErrAnd, List, Ok, Result, [], arith, cases_eq, inl, inr, length, refl, slice_index, subst, suc, sym, ℕ, ◌<◌, ◌∷◌, ◌≡◌, ◌≢◌}
 
 -- where two lists have different elements
 pub record DifferAt (xs ys : List ℕ) : Type 0 where

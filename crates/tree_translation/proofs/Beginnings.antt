@@ -1,19 +1,8 @@
 -- Beginnings of a table's inputs, by those of its rows.
-use Rattle.std.proofs.Common.{◌≡◌, inl, inr, ℕ, ◌<◌, List, [], ◌∷◌, ◌++◌, All, length, map, slice_index, slice_index_or, refl, sym, ap, subst, ◌∙◌, arith, rules}
-use Rattle.std.proofs.lemmas.List.{get_or-map, length-map}
-use Rattle.std.proofs.lemmas.List.Elements.{All-append, All-from_recursion}
-use Rattle.worlds.specs.Step.{AreNineBelow}
-use Rattle.table_symmetry.specs.declared.expansion.Expanded.{Expanded}
+use Rattle.tree_translation.proofs.Names.{All, All-append, All-from_recursion, AreExpanded, AreNineBelow, Expanded, List, NeedStarts, NeedTwoNodes, NeedsNodes, Neighbors, Start, StartsApart, Table, [], ap, arith, get_or-map, inl, inputs_of}
+use Rattle.tree_translation.proofs.Names.{inr, length, length-map, map, neighbors_of, order_of, places_of, refl, rows_give, rules, slice_index, slice_index_or, start_at, state-below, subst, sym, ℕ, ◌++◌, ◌<◌, ◌∙◌, ◌∷◌, ◌≡◌}
 use Rattle.table_symmetry.specs.NextState as table_rule
-use Rattle.table_symmetry.specs.Rows.{AreExpanded}
-use Rattle.table_symmetry.specs.Table.{Table}
-use Rattle.decision_tree.specs.declared.tree.Neighbors.{Neighbors}
 use Rattle.decision_tree.specs.declared.tree.Neighbors.TheVariants.{Four, Eight}
-use Rattle.tree_translation.specs.NodesNeeded.{NeedTwoNodes, NeedsNodes}
-use Rattle.tree_translation.specs.Starts.{NeedStarts, Start, StartsApart, start_at}
-use Rattle.tree_translation.specs.Translation.{neighbors_of, order_of, rows_give}
-use Rattle.decision_tree.specs.Tree.{inputs_of, places_of}
-use Rattle.decision_tree.specs.TreeLaws.{state-below}
 use Rattle.tree_translation.proofs.NodeLists.{firsts-all}
 use Rattle.tree_translation.proofs.Translating.{places-many, rows-next}
 

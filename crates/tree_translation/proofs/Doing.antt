@@ -1,18 +1,7 @@
 -- Nodes that do what lists of tails do.
-use Rattle.std.proofs.Common.{◌≡◌, ℕ, suc, ◌<◌, true, cond, nat_lt, List, [], ◌∷◌, ◌++◌, length, slice_index, Option, Some, None, unwrap_or, refl, ap, subst, ◌∙◌, arith}
-use Rattle.std.specs.Prelude.{All}
-use Rattle.std.specs.List.{list_all}
-use Rattle.std.proofs.lemmas.Bool.Decides.{nat_tests}
-use Rattle.std.proofs.lemmas.List.{get_or_append_left}
-use Rattle.std.proofs.lemmas.List.Sums.{list_all-from_AllPass}
-use Rattle.tree_translation.specs.declared.layers.Layer.{Layer}
-use Rattle.tree_translation.specs.Layers.{IsLayer, lets, rest_at, result_of}
-use Rattle.tree_translation.specs.Translation.{AreLeaves, Does, LeftOf, first_some, outcome}
-use Rattle.decision_tree.specs.Tree.{Entries, follow, leads, node_at}
-use Rattle.decision_tree.specs.TreeLaws.{leads-on, leads-width}
+use Rattle.tree_translation.proofs.Names.{All, AreLeaves, Does, Entries, IsLayer, Layer, LeftOf, List, None, Option, Some, [], ap, arith, cond, first_some, follow, get_or_append_left, get_or_default, leads, leads-on, leads-width, length}
+use Rattle.tree_translation.proofs.Names.{lets, list_all, list_all-from_AllPass, nat_lt, nat_tests, node_at, none-past, outcome, refl, rest_at, result_of, slice_index, subst, suc, true, unwrap_or, ℕ, ◌++◌, ◌<◌, ◌∙◌, ◌∷◌, ◌≡◌}
 use Rattle.decision_tree.proofs.Shared.Growing.{leads-append, leads-node}
-use Rattle.decision_tree.proofs.Shared.KeptNodes.{none-past}
-use Rattle.std.proofs.lemmas.List.{get_or_default}
 use Rattle.tree_translation.proofs.NodeLists.{firsts-all}
 
 -- more nodes change nothing of what is followed from those before

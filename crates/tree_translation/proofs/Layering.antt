@@ -1,16 +1,8 @@
 -- Layers of rows: one grows row by row, and then comes before the others.
-use Rattle.std.proofs.Common.{◌≡◌, ℕ, suc, ◌+◌, ◌<◌, ◌≤◌, ◌==◌, ◌&&◌, Bool, true, List, [], ◌∷◌, ◌++◌, All, length, get_or, slice_get, Option, Some, None, below_more, refl, ap, arith}
-use Rattle.std.proofs.lemmas.Bool.Decides.{nat_tests}
-use Rattle.std.proofs.lemmas.Grind.{common_steps, elements}
-use Rattle.std.proofs.lemmas.List.{get_or_default}
-use Rattle.std.proofs.lemmas.List.Elements.{All-cons, All-nil}
-use Rattle.std.proofs.lemmas.Option.{get_or_from_slice_get}
-use Rattle.std.proofs.lemmas.Slice.Eq.{bytes_eq-Decides}
+use Rattle.tree_translation.proofs.Names.{All, All-cons, All-nil, AreLayersOf, Bool, Expanded, IsGrownBy, IsLayer, IsLayerOf, Layer, List, None, Option, Some, StandsFor, Tail, [], ap, arith, asked_at, below_more, bytes_eq-Decides}
+use Rattle.tree_translation.proofs.Names.{common_steps, count_of, elements, get_or, get_or_default, get_or_from_slice_get, length, nat_tests, refl, rest_at, same_asked, slice_get, suc, tail_at, true, ℕ, ◌&&◌, ◌++◌, ◌+◌, ◌<◌, ◌==◌, ◌∷◌, ◌≡◌}
+use Rattle.tree_translation.proofs.Names.{◌≤◌}
 use Rattle.indexmap.specs.IndexSet.{insert_key}
-use Rattle.table_symmetry.specs.declared.expansion.Expanded.{Expanded}
-use Rattle.tree_translation.specs.declared.layers.Layer.{Layer}
-use Rattle.tree_translation.specs.declared.layers.Tail.{Tail}
-use Rattle.tree_translation.specs.Layers.{AreLayersOf, IsGrownBy, IsLayer, IsLayerOf, StandsFor, asked_at, count_of, rest_at, same_asked, tail_at}
 
 -- tails are equal where their fields are
 abbrev pub same_tail : Tail → Tail → Bool

@@ -9,3 +9,4 @@ mod TailsLeft
 mod TailsNear
 mod Translating
 pub mod Shared
+pub mod Names

@@ -1,25 +1,12 @@
 -- Lists of tails and the nodes that do what they do.
-use Rattle.std.proofs.Common.{◌≡◌, ◌≢◌, ◌∙◌, inl, inr, ℕ, zero, suc, ◌+◌, ◌-◌, ◌<◌, ◌≤◌, Bool, true, false, cond, nat_lt, List, [], ◌∷◌, ◌++◌, All, Some, length, drop, slice_index, slice_index_or, append-nil, append_assoc, below_more, refl, sym, ap, subst, add-one, arith}
-use Rattle.std.specs.List.{IsDistinct, list_any, position_or_len}
+use Rattle.tree_translation.proofs.Names.{All, All-append, All-cons, All-nil, All-push, All-tail, AllPass-from_list_all, AreBegun, AreEntries, AreFit, AreNodes, AreTailsAt, Bool, Does, Fit, Found, GrowsNodes, IsBegun, IsDistinct, IsEntry}
+use Rattle.tree_translation.proofs.Names.{IsFull, IsGrownBy, IsLayer, IsLeft, IsNode, IsNumberOf, IsStored, Layer, LeftOf, List, Listed, NeedStarts, NeedsTooMany, Node, Some, Start, StartsApart, [], add-one, and_from, and_parts, ap}
+use Rattle.tree_translation.proofs.Names.{append-nil, append_assoc, arith, below_more, bytes_eq-Decides, cases_eq, cases_order, common_steps, cond, drop, drop_more, elements, entries_in, eq-eqb, eqb-true, false, follow, get_or-map}
+use Rattle.tree_translation.proofs.Names.{get_or_default, inl, input_at, inr, length, length-append, length-drop, length-map, list_all-from_AllPass, list_any, map-append, nat_lt, nat_tests, node_at, node_limit, outcome, position_or_len}
+use Rattle.tree_translation.proofs.Names.{refl, same_listed, same_node, slice_index, slice_index_or, start_at, subst, suc, sym, true, zero, ℕ, ◌++◌, ◌+◌, ◌-◌, ◌<◌, ◌∙◌, ◌∷◌, ◌≡◌, ◌≢◌, ◌≤◌}
 use Rattle.std.specs.HashMap.{get}
-use Rattle.std.proofs.lemmas.Bool.{and_from, and_parts, cases_eq, cases_order, eq-eqb, eqb-true}
-use Rattle.std.proofs.lemmas.List.{drop_more, get_or-map, get_or_default, length-append, length-drop, length-map, map-append}
-use Rattle.std.proofs.lemmas.List.Elements.{All-append, All-cons, All-nil, All-push, All-tail}
-use Rattle.std.proofs.lemmas.List.Sums.{AllPass-from_list_all, list_all-from_AllPass}
 use Rattle.std.proofs.lemmas.Map.Keys.{apart_from_distinct}
-use Rattle.std.proofs.lemmas.Slice.Eq.{bytes_eq-Decides}
-use Rattle.tree_translation.specs.declared.layers.Layer.{Layer}
-use Rattle.tree_translation.specs.declared.listed.Listed.{Listed}
-use Rattle.tree_translation.specs.declared.listed.Node.{Node}
-use Rattle.tree_translation.specs.declared.numbering.Found.{Found}
-use Rattle.tree_translation.specs.Layers.{Fit, IsGrownBy, IsLayer}
-use Rattle.tree_translation.specs.Numbering.{AreBegun, AreEntries, AreFit, AreNodes, AreTailsAt, GrowsNodes, IsBegun, IsEntry, IsFull, IsLeft, IsNode, IsNumberOf, IsStored, NeedsTooMany, entries_in, input_at, same_listed, same_node}
-use Rattle.tree_translation.specs.Starts.{NeedStarts, Start, StartsApart, start_at}
-use Rattle.tree_translation.specs.Translation.{Does, LeftOf, node_limit, outcome}
 use Rattle.decision_tree.specs.Entry.{entry_range}
-use Rattle.decision_tree.specs.Tree.{follow, node_at}
-use Rattle.std.proofs.lemmas.Bool.Decides.{nat_tests}
-use Rattle.std.proofs.lemmas.Grind.{common_steps, elements}
 use Rattle.tree_translation.proofs.Apart.{DifferAt, different-at}
 use Rattle.tree_translation.proofs.NodeLists.{each-push}
 use Rattle.tree_translation.proofs.Doing.{Does-append, Does-branch, Does-leaf, leaves-below, outcome-left}

@@ -1,14 +1,10 @@
 -- Runs of equal numbers.
-use Rattle.std.proofs.Common.{◌≡◌, ◌∙◌, ℕ, ◌+◌, ◌-◌, ◌*◌, ◌<◌, ◌≤◌, Bool, true, false, List, [], ◌∷◌, ◌++◌, length, replicate, append-nil, append_assoc, refl, sym, ap, arith}
-use Rattle.std.specs.Prelude.{◌==◌, ◌&&◌}
+use Rattle.tree_translation.proofs.Names.{Bool, Decides-and, Decides-eqb, Decides-like, List, [], ap, append-nil, append_assoc, arith, bytes_eq-Decides, false, keeps_runs, length, nat_tests, refl, replicate, replicate_more, runs_from}
+use Rattle.tree_translation.proofs.Names.{same_from_decides, slice_eq-Decides, spread_from, sym, true, ℕ, ◌&&◌, ◌*◌, ◌++◌, ◌+◌, ◌-◌, ◌<◌, ◌==◌, ◌∙◌, ◌∷◌, ◌≡◌, ◌≤◌}
 use Rattle.std.specs.Bool.{Decides}
 use Rattle.std.specs.Cmp.Lexicographic.{pointwise}
 use Rattle.std.specs.Str.{bytes_eq}
-use Rattle.std.proofs.lemmas.Bool.Decides.{Decides-and, Decides-eqb, Decides-like, nat_tests, same_from_decides}
-use Rattle.std.proofs.lemmas.List.{replicate_more}
-use Rattle.std.proofs.lemmas.Slice.Eq.{bytes_eq-Decides, slice_eq-Decides}
 use Rattle.tree_translation.specs.declared.packed.Run.{Run}
-use Rattle.tree_translation.specs.Packed.{keeps_runs, runs_from, spread_from}
 
 -- numbers from a place on come back from their runs, with more of the first where one begins earlier
 spread-runs : (from place n : ℕ) (numbers : List ℕ) → from ≤ place → spread_from from (runs_from place (n ∷ numbers)) ≡ replicate (place - from) n ++ n ∷ numbers

@@ -1,13 +1,6 @@
 -- What tails leave behind an input, and the marks of what was found of it.
-use Rattle.std.proofs.Common.{◌≡◌, ℕ, ◌<◌, Bool, true, false, List, [], ◌∷◌, ◌++◌, All, Option, length, set, arith}
-use Rattle.std.specs.Option.{option_or}
-use Rattle.std.proofs.lemmas.Grind.{common_steps, elements}
-use Rattle.std.proofs.lemmas.List.{get_or_default}
-use Rattle.std.proofs.lemmas.List.Elements.{All-push}
-use Rattle.tree_translation.specs.declared.layers.Layer.{Layer}
-use Rattle.tree_translation.specs.Layers.{lets, rest_at}
-use Rattle.tree_translation.specs.TailsFound.{AreMarked, IsFound, is_in}
-use Rattle.tree_translation.specs.Translation.{asked_behind, first_some}
+use Rattle.tree_translation.proofs.Names.{All, All-push, AreMarked, Bool, IsFound, Layer, List, Option, [], arith, asked_behind, common_steps, elements, false, first_some, get_or_default, is_in, length, lets, option_or, rest_at, set, true}
+use Rattle.tree_translation.proofs.Names.{ℕ, ◌++◌, ◌<◌, ◌∷◌, ◌≡◌}
 
 -- one more is asked
 pub first_some-push : (f : ℕ → Option ℕ) (xs : List ℕ) (x : ℕ) → first_some f (xs ++ x ∷ []) ≡ option_or (first_some f xs) (f x)

@@ -1,15 +1,6 @@
 -- Words of bits tell which states a tail lets be the input, and alike bits which it treats alike.
-use Rattle.std.proofs.Common.{◌≡◌, ℕ, ◌+◌, ◌*◌, ◌/◌, ◌%◌, ◌<◌, ◌≤◌, false, List, [], ◌∷◌, ◌++◌, All, Option, None, get_or, length, sym, refl, ◌∙◌, ◌-◌, arith}
-use Rattle.std.specs.Prelude.{◌==◌}
-use Rattle.std.specs.Int.{bit_at}
-use Rattle.std.proofs.lemmas.List.{get_or_default}
-use Rattle.std.proofs.lemmas.List.Elements.{All-push, All-tail}
-use Rattle.std.proofs.lemmas.Nat.Bits.{bit_at-zero}
-use Rattle.tree_translation.specs.declared.layers.Layer.{Layer}
-use Rattle.tree_translation.specs.declared.layers.Tail.{Tail}
-use Rattle.tree_translation.specs.Layers.{allows, lets}
-use Rattle.tree_translation.specs.Near.{TreatsAlike, AreNear}
-use Rattle.tree_translation.specs.Translation.{LeftOf, asked_behind, first_some}
+use Rattle.tree_translation.proofs.Names.{All, All-push, All-tail, AreNear, Layer, LeftOf, List, None, Option, Tail, TreatsAlike, [], allows, arith, asked_behind, bit_at, bit_at-zero, false, first_some, get_or, get_or_default, length, lets}
+use Rattle.tree_translation.proofs.Names.{refl, sym, ℕ, ◌%◌, ◌*◌, ◌++◌, ◌+◌, ◌-◌, ◌/◌, ◌<◌, ◌==◌, ◌∙◌, ◌∷◌, ◌≡◌, ◌≤◌}
 use Rattle.tree_translation.proofs.TailsLeft.{first_some-push}
 
 -- what a tail lets the input be, by the tail and the set that are read

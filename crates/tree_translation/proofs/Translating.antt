@@ -1,24 +1,11 @@
 -- A table's rows, and the inputs of its tree.
-use Rattle.std.proofs.Common.{◌≡◌, ℕ, suc, ◌+◌, ◌*◌, ◌-◌, ◌<◌, ◌≤◌, true, cond, List, [], ◌∷◌, length, slice_index, Option, Some, None, unwrap_or, refl, ap, subst, ◌∙◌, arith}
-use Rattle.std.specs.Prelude.{All, slice_index_or}
-use Rattle.std.specs.Option.{option_or}
-use Rattle.std.proofs.lemmas.Bool.{and_from, eq-eqb}
-use Rattle.worlds.specs.Step.{nine_zeros}
-use Rattle.table_symmetry.specs.declared.expansion.Expanded.{Expanded}
+use Rattle.tree_translation.proofs.Names.{All, AreExpanded, AreLayersOf, DoTable, Does, DoesRows, Entries, Expanded, IsKeptTree, Layer, List, None, Option, Some, Table, Translates, Tree, [], all_allow, and_from, ap, arith, asked, cond}
+use Rattle.tree_translation.proofs.Names.{eq-eqb, first_some, get_or_default, inputs_of, is_sound, last_of, leads, leads-width, length, neighbors_of, nine_zeros, nodes_in, none-past, option_or, order_of, outcome, places_of, refl, result_of}
+use Rattle.tree_translation.proofs.Names.{rows_give, slice_index, slice_index_or, subst, suc, tree_of_kept, true, unwrap_or, ℕ, ◌*◌, ◌+◌, ◌-◌, ◌<◌, ◌∙◌, ◌∷◌, ◌≡◌, ◌≤◌}
 use Rattle.table_lines.specs.declared.neighborhood.Neighborhood.{Neighborhood}
 use Rattle.table_lines.specs.declared.neighborhood.Neighborhood.TheVariants.{VonNeumann, Moore, Hexagonal, OneDimensional}
 use Rattle.table_symmetry.specs.Expanded.{all_have, first_match}
 use Rattle.table_symmetry.specs.NextState as table_rule
-use Rattle.table_symmetry.specs.Rows.{AreExpanded}
-use Rattle.table_symmetry.specs.Table.{Table}
-use Rattle.tree_translation.specs.declared.layers.Layer.{Layer}
-use Rattle.decision_tree.specs.Kept.{IsKeptTree, nodes_in, tree_of_kept}
-use Rattle.tree_translation.specs.Layers.{AreLayersOf, all_allow, asked, result_of}
-use Rattle.tree_translation.specs.Translation.{DoTable, Does, DoesRows, Translates, first_some, last_of, neighbors_of, order_of, outcome, rows_give}
-use Rattle.decision_tree.specs.Tree.{Entries, Tree, inputs_of, is_sound, leads, places_of}
-use Rattle.decision_tree.specs.TreeLaws.{leads-width}
-use Rattle.decision_tree.proofs.Shared.KeptNodes.{none-past}
-use Rattle.std.proofs.lemmas.List.{get_or_default}
 use Rattle.tree_translation.proofs.NodeLists.{firsts, firsts-all}
 
 -- functions that agree place by place give the same first answer

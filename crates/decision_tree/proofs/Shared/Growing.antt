@@ -1,17 +1,8 @@
 -- Nodes stay what they are where one more comes behind them.
-use Rattle.std.proofs.Common.{◌≡◌, ◌≢◌, ℕ, ◌+◌, ◌*◌, ◌-◌, ◌<◌, ◌≤◌, ◌==◌, ◌&&◌, Bool, true, List, [], ◌∷◌, ◌++◌, length, slice_index, nat_lt, EachIndex, below_more, inl, inr, refl, sym, ap, ◌∙◌, arith, length-append}
-use Rattle.std.proofs.lemmas.Bool.{and_parts, cases_eq}
-use Rattle.std.proofs.lemmas.Bool.Decides.{nat_tests}
-use Rattle.std.proofs.lemmas.Grind.{common_steps}
-use Rattle.std.specs.List.{list_all}
-use Rattle.std.proofs.lemmas.List.{get_or_append_left, get_or_push}
+use Rattle.decision_tree.proofs.Names.{AreKept, Bool, EachIndex, Entries, IsTreeHead, List, TreeHead, [], and_parts, ap, arith, below_more, cases_eq, common_steps, depth_of_root, do_entries_fit, get_or_append_left, get_or_push, inl, inr}
+use Rattle.decision_tree.proofs.Names.{is_next, leads, leads-width, length, length-append, list_all, nat_lt, nat_tests, node_at, nodes_in, refl, slice_index, sym, true, ℕ, ◌&&◌, ◌*◌, ◌++◌, ◌+◌, ◌-◌, ◌<◌, ◌==◌, ◌∙◌, ◌∷◌, ◌≡◌, ◌≢◌, ◌≤◌}
 use Rattle.std.proofs.Math.Seq.{get_or-append_seam}
 use Rattle.std.proofs.lemmas.List.Sums.{AllPass-from_list_all}
-use Rattle.decision_tree.specs.declared.descriptors.TreeHead.{TreeHead}
-use Rattle.decision_tree.specs.Kept.{AreKept, IsTreeHead, nodes_in}
-use Rattle.decision_tree.specs.Tree.{Entries, node_at, leads}
-use Rattle.decision_tree.specs.TreeLaws.{leads-width}
-use Rattle.decision_tree.specs.TreeLines.{depth_of_root, do_entries_fit, is_next}
 use Rattle.decision_tree.proofs.Shared.KeptNodes.{length-nodes_in, none-past, nodes_in-push}
 
 -- what holds of each, holds of each what follows from it

@@ -1,10 +1,6 @@
 -- The nodes whose entries are kept one after another.
-use Rattle.std.proofs.Common.{◌≡◌, ℕ, zero, suc, ◌+◌, ◌*◌, ◌-◌, ◌<◌, ◌≤◌, List, [], ◌∷◌, ◌++◌, length, map, take, drop, slice_index, slice_index_or, refl, ap, ◌∙◌, arith}
-use Rattle.std.proofs.lemmas.Grind.{common_steps}
-use Rattle.std.specs.List.{concat}
-use Rattle.std.proofs.lemmas.List.{take-append-drop, take-append-le, drop-append-le, nil_from_length, take_all}
-use Rattle.decision_tree.specs.Kept.{nodes_in, nodes_of}
-use Rattle.decision_tree.specs.Tree.{Entries, node_at}
+use Rattle.decision_tree.proofs.Names.{Entries, List, [], ap, arith, common_steps, concat, drop, drop-append-le, length, map, nil_from_length, node_at, nodes_in, nodes_of, refl, slice_index, slice_index_or, suc, take, take-append-drop}
+use Rattle.decision_tree.proofs.Names.{take-append-le, take_all, zero, ℕ, ◌*◌, ◌++◌, ◌+◌, ◌-◌, ◌<◌, ◌∙◌, ◌∷◌, ◌≡◌, ◌≤◌}
 
 pub length-nodes_in : (n count : ℕ) (entries : List ℕ) → length (nodes_in n count entries) ≡ count
 length-nodes_in n zero entries = refl

@@ -1,16 +1,7 @@
 -- Lines that say a tree say it under other numbers too.
-use Rattle.std.proofs.Common.{◌≡◌, ℕ, ◌==◌, List, [], ◌∷◌, ◌++◌, length, map, Option, Some, None, Result, Ok, Err, refl, sym, ap, ◌∙◌, subst, arith}
-use Rattle.std.specs.Option.{option_map, option_map_or, ok_or}
-use Rattle.basics.specs.Results.{◌>>=◌}
-use Rattle.rule_file.specs.declared.fault.RuleFault.{RuleFault}
-use Rattle.rule_file.specs.declared.fault.RuleFault.TheVariants.{BadTree}
-use Rattle.rule_file.specs.RuleFile.{NumberedLine}
-use Rattle.rule_file.proofs.Shared.Readings.{GivesToo, ok_or-too, same_value, then_too, unless-too}
-use Rattle.decision_tree.specs.declared.descriptors.Descriptor.{Descriptor}
-use Rattle.decision_tree.specs.declared.descriptors.TreeHead.{TreeHead}
-use Rattle.decision_tree.specs.Laws.{NumbersDoNotMatter}
-use Rattle.decision_tree.specs.Tree.{Tree}
-use Rattle.decision_tree.specs.TreeLines.{Described, Node, describe, descriptor_of, head_from, head_of, if_quiescent, last_number, node_of, nodes_from, tree_from, undescribed, with_line}
+use Rattle.decision_tree.proofs.Names.{BadTree, Described, Descriptor, Err, GivesToo, List, Node, None, NumberedLine, NumbersDoNotMatter, Ok, Option, Result, RuleFault, Some, Tree, TreeHead, [], ap, arith, describe, descriptor_of}
+use Rattle.decision_tree.proofs.Names.{head_from, head_of, if_quiescent, last_number, length, map, node_of, nodes_from, ok_or, ok_or-too, option_map, option_map_or, refl, same_value, subst, sym, then_too, tree_from, undescribed, unless-too}
+use Rattle.decision_tree.proofs.Names.{with_line, ℕ, ◌++◌, ◌==◌, ◌>>=◌, ◌∙◌, ◌∷◌, ◌≡◌}
 
 abbrev texts : List NumberedLine → List (List ℕ)
 texts lines = map (λ line. line.text) lines

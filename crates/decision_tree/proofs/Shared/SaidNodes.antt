@@ -1,18 +1,7 @@
 -- The nodes that a section says: each leads to nodes one less deep, and the last is as deep as the root.
-use Rattle.std.proofs.Common.{◌≡◌, ℕ, ◌+◌, ◌-◌, ◌<◌, ◌≤◌, true, List, [], ◌∷◌, ◌++◌, length, map, slice_index, Option, None, Some, Ok, refl, sym, subst, inl, inr, arith}
-use Rattle.std.specs.Option.{option_map, option_map_or, ok_or}
-use Rattle.std.proofs.lemmas.Bool.{and_from, cases_lt}
-use Rattle.std.proofs.lemmas.Bool.Decides.{nat_tests}
-use Rattle.std.proofs.lemmas.Grind.{common_steps}
-use Rattle.std.proofs.lemmas.List.{length-map, map-append}
-use Rattle.basics.specs.Results.{◌>>=◌}
-use Rattle.rule_file.specs.declared.fault.RuleFault.TheVariants.{BadTree}
-use Rattle.rule_file.proofs.Shared.Readings.{map-some, some-ok, then-ok}
-use Rattle.rule_file.specs.RuleFile.{NumberedLine, Section}
-use Rattle.decision_tree.specs.declared.descriptors.Descriptor.{Descriptor}
-use Rattle.decision_tree.specs.declared.descriptors.TreeHead.{TreeHead}
-use Rattle.decision_tree.specs.Tree.{Entries, Tree, is_quiescent, is_sound, leads, next, node_at, places_of, root_of}
-use Rattle.decision_tree.specs.TreeLines.{Described, Node, depth_of_root, describe, descriptor_of, head_from, head_of, if_quiescent, is_next, last_number, node_of, nodes_from, tree_from, tree_of, undescribed, with_line}
+use Rattle.decision_tree.proofs.Names.{BadTree, Described, Descriptor, Entries, List, Node, None, NumberedLine, Ok, Option, Section, Some, Tree, TreeHead, [], and_from, arith, cases_lt, common_steps, depth_of_root, describe, descriptor_of}
+use Rattle.decision_tree.proofs.Names.{head_from, head_of, if_quiescent, inl, inr, is_next, is_quiescent, is_sound, last_number, leads, length, length-map, map, map-append, map-some, nat_tests, next, node_at, node_of, nodes_from, ok_or}
+use Rattle.decision_tree.proofs.Names.{option_map, option_map_or, places_of, refl, root_of, slice_index, some-ok, subst, sym, then-ok, tree_from, tree_of, true, undescribed, with_line, ℕ, ◌++◌, ◌+◌, ◌-◌, ◌<◌, ◌>>=◌, ◌∷◌, ◌≡◌, ◌≤◌}
 use Rattle.decision_tree.proofs.Finishing.{levels}
 use Rattle.decision_tree.proofs.Shared.Growing.{IsBelow, Leading, entry-below, is_next-node, leading-push}
 

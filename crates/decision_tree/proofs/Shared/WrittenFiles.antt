@@ -1,22 +1,10 @@
 -- Rule files of trees that are written.
-use Rattle.std.proofs.Common.{◌≡◌, refl, ℕ, ◌<◌, ◌≤◌, true, false, List, [], ◌∷◌, ◌++◌, length, map, decimal, length-append, arith}
-use Rattle.std.specs.Prelude.{codes}
-use Rattle.std.specs.List.{AllByRecursion, list_all}
+use Rattle.decision_tree.proofs.Names.{AllByRecursion, AreNodesOf, EachIsNext, Eight, Four, IsDigit, IsNumberLine, IsPlain, IsPlainLine, IsSolid, IsTreeHead, IsWide, List, Neighbors, Node, TreeHead, WrittenIsItsFile, [], arith, codes}
+use Rattle.decision_tree.proofs.Names.{decimal, decimal-bytes, differs, digit-plain, digit-solid, false, file-written, is_solid, length, length-append, list_all, map, neighbors_text, node_line, numbers-bytes, numbers-line, numbers-start}
+use Rattle.decision_tree.proofs.Names.{opens_section, refl, solid-line, solid-tested, true, visible-tested, written_lines, ℕ, ◌++◌, ◌<◌, ◌∷◌, ◌≡◌, ◌≤◌}
 use Rattle.basics.proofs.Shared.Lists.{all_append, all_so}
-use Rattle.text_lines.proofs.Shared.ByteRanges.{IsDigit, differs, visible-tested}
-use Rattle.text_lines.proofs.Shared.Decimals.{IsWide, decimal-bytes}
-use Rattle.text_lines.proofs.Shared.NumberLines.{IsNumberLine, numbers-bytes, numbers-line, numbers-start}
 use Rattle.text_lines.proofs.Shared.PrintedLines.{line-visible}
 use Rattle.rule_file.specs.declared.text.SectionKind.TheVariants.{Tree}
-use Rattle.rule_file.specs.RuleFile.{opens_section}
-use Rattle.rule_file.proofs.Shared.WrittenFiles.{IsPlain, IsPlainLine, IsSolid, digit-plain, digit-solid, file-written, is_solid, solid-line, solid-tested}
-use Rattle.decision_tree.specs.declared.tree.Neighbors.{Neighbors}
-use Rattle.decision_tree.specs.declared.tree.Neighbors.TheVariants.{Four, Eight}
-use Rattle.decision_tree.specs.declared.descriptors.TreeHead.{TreeHead}
-use Rattle.decision_tree.specs.Kept.{IsTreeHead}
-use Rattle.decision_tree.specs.Laws.{WrittenIsItsFile}
-use Rattle.decision_tree.specs.TreeLines.{Node}
-use Rattle.decision_tree.specs.WrittenTree.{AreNodesOf, EachIsNext, neighbors_text, node_line, written_lines}
 use Rattle.decision_tree.proofs.Shared.WrittenTrees.{node-wide}
 
 -- a word and a number behind it

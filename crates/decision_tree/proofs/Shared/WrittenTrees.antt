@@ -1,30 +1,12 @@
 -- Trees that are written read back.
-use Rattle.std.proofs.Common.{◌≡◌, ◌∙◌, ap, refl, ℕ, ◌+◌, ◌<◌, ◌≤◌, ◌==◌, ◌&&◌, Bool, true, false, cond, List, [], ◌∷◌, ◌++◌, length, map, Option, Some, None, Ok, Err, nat_lt, decimal, append-nil, append_assoc, length-append, arith}
-use Rattle.std.specs.Prelude.{codes, option_and_then, slice_index}
-use Rattle.std.specs.List.{AllByRecursion, list_all}
-use Rattle.std.specs.Option.{option_map, ok_or}
-use Rattle.std.proofs.lemmas.Bool.Decides.{nat_tests}
-use Rattle.basics.specs.Results.{◌>>=◌}
-use Rattle.text_lines.specs.Blanks.{is_blank}
-use Rattle.text_lines.specs.Numbers.{numbers_line}
-use Rattle.text_lines.proofs.Shared.ByteRanges.{differs, digit-visible, visible-solid}
-use Rattle.text_lines.proofs.Shared.Decimals.{IsWide, number_of-decimal}
+use Rattle.decision_tree.proofs.Names.{AllByRecursion, BadTree, Bool, Described, Descriptor, EachIsNext, Eight, Err, Four, IsTreeHead, IsWide, List, Neighbors, Node, None, NotQuiescent, NumberedLine, Ok, Option, Parts, Some, TreeHead}
+use Rattle.decision_tree.proofs.Names.{WrittenMeansTheSame, [], ap, append-nil, append_assoc, arith, codes, cond, decimal, describe, descriptor_named, descriptor_of, differs, digit-visible, do_entries_fit, false, head_from, head_of}
+use Rattle.decision_tree.proofs.Names.{if_quiescent, is_blank, is_next, last_number, least_states, length, length-append, list_all, map, most_nodes, most_states, nat_lt, nat_tests, neighbors_text, node_line, node_of, nodes_from}
+use Rattle.decision_tree.proofs.Names.{number_of-decimal, numbered_from, numbers-bytes, numbers_in, numbers_line, ok_or, option_and_then, option_map, refl, slice_index, tree_from, true, undescribed, visible-solid, within-read}
+use Rattle.decision_tree.proofs.Names.{words-numbers, written_lines, written_section, ℕ, ◌&&◌, ◌++◌, ◌+◌, ◌<◌, ◌==◌, ◌>>=◌, ◌∙◌, ◌∷◌, ◌≡◌, ◌≤◌}
 use Rattle.text_lines.proofs.Shared.NamedValues.{named_value-decimal, named_value-none}
-use Rattle.text_lines.proofs.Shared.NumberLines.{Parts, numbers-bytes, words-numbers}
-use Rattle.rule_file.proofs.Shared.WrittenFiles.{within-read}
-use Rattle.rule_file.specs.declared.fault.RuleFault.TheVariants.{BadTree, NotQuiescent}
-use Rattle.rule_file.specs.States.{least_states, most_states}
-use Rattle.rule_file.specs.RuleFile.{NumberedLine, numbered_from}
-use Rattle.decision_tree.specs.declared.tree.Neighbors.{Neighbors}
-use Rattle.decision_tree.specs.declared.tree.Neighbors.TheVariants.{Four, Eight}
-use Rattle.decision_tree.specs.declared.descriptors.Descriptor.{Descriptor}
 use Rattle.decision_tree.specs.declared.descriptors.Descriptor.TheVariants as descriptor
-use Rattle.decision_tree.specs.declared.descriptors.TreeHead.{TreeHead}
-use Rattle.decision_tree.specs.Kept.{IsTreeHead}
-use Rattle.decision_tree.specs.Laws.{WrittenMeansTheSame}
-use Rattle.decision_tree.specs.TreeLines.{Described, Node, describe, descriptor_named, descriptor_of, do_entries_fit, head_from, head_of, if_quiescent, is_next, last_number, most_nodes, node_of, nodes_from, numbers_in, tree_from, undescribed}
 use Rattle.decision_tree.proofs.Shared.Growing.{is_next-node}
-use Rattle.decision_tree.specs.WrittenTree.{EachIsNext, neighbors_text, node_line, written_lines, written_section}
 
 -- what a name and its value describe
 abbrev described_by : List ℕ × List ℕ → Option (Descriptor × List ℕ)

@@ -1,31 +1,12 @@
 -- The desk of the law that a book shows.
-use Rattle.std.proofs.Common.{arith, ℕ, ◌≡◌, ◌∙◌, Bool, List, refl, sym, ap, subst, Some}
-use Rattle.std.specs.Prelude.{IfSome, if◌then◌else◌}
-use Rattle.std.proofs.Math.Path.{fun_ext}
-use Rattle.worlds.specs.World.{World}
-use Rattle.schedule.specs.Plan.{Plan}
-use Rattle.revision_jobs.specs.declared.answer.Job.{Job}
-use Rattle.revision_jobs.specs.Value.{Value, pattern, text}
-use Rattle.desk_events.specs.declared.need.Need.{Need}
-use Rattle.desk_events.specs.Core.{Core, Row, arrival_in, awaits, put, world_in}
+use Rattle.dependency_book.proofs.Names.{BookState, Bookmark, Bool, Core, Empty, Expected, IfSome, IsRightBook, Job, Known, List, Need, Plan, PutsRow, RowState, Some, Value, View, World, ap, arith, arrival_in, arrival_known, arrival_row}
+use Rattle.dependency_book.proofs.Names.{awaits, bookmark_in, core_of, expected, fun_ext, if◌then◌else◌, is_need, job_of, known, need_same, pattern, plain_row, refl, row_of, said_at, scratch, state_map, subst, sym, text, text_row}
+use Rattle.dependency_book.proofs.Names.{text_wanted, wanted, ℕ, ◌∙◌, ◌≡◌}
+use Rattle.desk_events.specs.Core.{Row, put, world_in}
 use Rattle.desk_events.specs.Entry.{Entry, value}
-use Rattle.desk_events.specs.Needs.{is_need}
 use Rattle.desk_events.specs.Right.{Stands}
 use Rattle.desk_events.proofs.Shared.Gives.{Arrives}
 use Rattle.desk_events.proofs.Shared.Right as right_core
-use Rattle.dependency_book.specs.declared.row.RowState.{RowState}
-use Rattle.dependency_book.specs.declared.row.RowState.TheVariants.{Empty, Expected, Known}
-use Rattle.dependency_book.specs.BookState.{BookState, arrival_known, arrival_row, expected, row_of, text_row}
-use Rattle.dependency_book.specs.Core.{core_of, plain_row}
-use Rattle.dependency_book.specs.Puts.{PutsRow}
-use Rattle.dependency_book.specs.Right.{IsRightBook}
-use Rattle.dependency_book.specs.RowState.{job_of, known, state_map}
-use Rattle.dependency_book.specs.Said.{said_at}
-use Rattle.schedule.specs.declared.document.Bookmark.{Bookmark}
-use Rattle.desk_events.specs.Wanted.{bookmark_in, text_wanted, wanted}
-use Rattle.desk_events.proofs.Shared.Needs.{need_same}
-use Rattle.schedule.specs.Scratch.{scratch}
-use Rattle.desk_events.specs.declared.need.Need.TheVariants.{View}
 
 abbrev pub core : Plan → List Entry → (Need → Row) → Core
 core p es rows = record { plan = p; entries = es; rows = rows }

@@ -1,18 +1,8 @@
 -- A book of the opening document.
-use Rattle.std.proofs.Common.{◌≡◌, ℕ, false, refl, sym, arith, None, [], subst}
-use Rattle.schedule.specs.Plan.{opening}
-use Rattle.revision_jobs.specs.declared.entries.Entries.{Entries}
-use Rattle.desk_events.specs.declared.mark.Mark.{Mark}
-use Rattle.desk_events.specs.declared.need.Need.{Need}
-use Rattle.desk_events.specs.declared.need.Need.TheVariants.{Step, View}
-use Rattle.dependency_book.specs.BookState.{opened, row_of, expected}
-use Rattle.dependency_book.specs.Cursor.{IsKeptBook, start}
-use Rattle.dependency_book.specs.Held.{IsHeldBook}
-use Rattle.desk_events.specs.Marks.{is_mark, is_start}
+use Rattle.dependency_book.proofs.Names.{Entries, IsHeldBook, IsKeptBook, Mark, Need, None, Step, View, [], arith, core_of, expected, false, is_mark, is_start, opened, opening, plain_row, refl, row_of, start, subst, sym, ℕ, ◌≡◌}
 use Rattle.desk_events.specs.Core as core
 use Rattle.desk_events.specs.Right.{IsRight as IsRightCore}
 use Rattle.desk_events.proofs.Shared.Opened.{opened_right}
-use Rattle.dependency_book.specs.Core.{core_of, plain_row}
 use Rattle.dependency_book.proofs.Passed.{passed_none}
 use Rattle.dependency_book.proofs.Shared.Cores.{same_core}
 

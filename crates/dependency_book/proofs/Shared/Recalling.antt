@@ -1,18 +1,7 @@
 -- What entering what was computed before leaves.
-use Rattle.std.proofs.Common.{◌≡◌, ◌⊎◌, ◌≤◌, ◌∙◌, List, [], ◌∷◌, refl, sym, ap, subst, inl, inr, arith}
+use Rattle.dependency_book.proofs.Names.{BookState, Empty, Entered, Enters, EntersSteps, Known, List, Mark, Need, RowState, SameBook, Value, [], ap, arith, either_way, empty_rows_of, inl, inr, is_need, missing, need_is, pattern, refl}
+use Rattle.dependency_book.proofs.Names.{row_of, step_to, subst, sym, world_after, ◌∙◌, ◌∷◌, ◌≡◌, ◌≤◌, ◌⊎◌}
 use Rattle.revision_jobs.specs.declared.entry.Step.{Step as Stepping}
-use Rattle.revision_jobs.specs.Value.{Value, pattern, world_after}
-use Rattle.desk_events.specs.declared.mark.Mark.{Mark}
-use Rattle.desk_events.specs.declared.need.Need.{Need}
-use Rattle.dependency_book.specs.declared.row.RowState.{RowState}
-use Rattle.dependency_book.specs.declared.row.RowState.TheVariants.{Empty, Known}
-use Rattle.dependency_book.specs.BookState.{BookState, row_of, empty_rows_of}
-use Rattle.dependency_book.specs.Jobs.{SameBook}
-use Rattle.desk_events.specs.Needs.{is_need, step_to}
-use Rattle.dependency_book.specs.Puts.{missing}
-use Rattle.dependency_book.specs.Recalled.{Entered, Enters, EntersSteps}
-use Rattle.desk_events.proofs.Shared.Needs.{need_is}
-use Rattle.desk_events.proofs.Shared.Tests.{either_way}
 
 pub recalls_none : (d : BookState) → EntersSteps d d
 recalls_none d = ([], refl)

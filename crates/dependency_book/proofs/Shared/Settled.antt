@@ -1,11 +1,6 @@
 -- How many rows a book has, and when none of its bookmarks is pending.
-use Rattle.std.proofs.Common.{◌≡◌, ◌+◌, ◌*◌, ◌≤◌, length, ap, subst, sym, ◌∙◌, refl, arith}
-use Rattle.std.proofs.lemmas.List.{length-map}
+use Rattle.dependency_book.proofs.Names.{ArrivalRow, BookState, IsRightBook, NothingOut, TextRow, ap, arith, empty_rows_of, length, length-map, pending_of, places_of, refl, subst, sym, ◌*◌, ◌+◌, ◌∙◌, ◌≡◌, ◌≤◌}
 use Rattle.schedule.specs.Repeats.{repeat_marks}
-use Rattle.dependency_book.specs.BookState.{BookState, NothingOut, pending_of, empty_rows_of}
-use Rattle.dependency_book.specs.Held.{places_of}
-use Rattle.dependency_book.specs.Right.{IsRightBook}
-use Rattle.dependency_book.specs.Rows.{ArrivalRow, TextRow}
 use Rattle.dependency_book.proofs.Outs.{held_by}
 use Rattle.dependency_book.proofs.Needed.{none_wanting}
 

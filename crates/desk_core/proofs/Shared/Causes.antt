@@ -1,25 +1,12 @@
 -- What explains a cause explains it still, while jobs come and go.
-use Rattle.std.proofs.Common.{◌≡◌, ℕ, ◌+◌, ◌<◌, ◌≤◌, ◌∙◌, List, [], ◌∷◌, ◌++◌, length, sym, subst, inl, inr, arith, append-nil, Option, Some, Err}
-use Rattle.std.specs.Prelude.{IfSome}
+use Rattle.desk_core.proofs.Names.{BookState, Cause, Err, EvolveFault, Explains, IfSome, IsOwnAnswer, IssueFault, JobResult, List, Option, PostView, RanOut, Receives, RefusesIssue, SameBook, SawStop, Some, [], append-nil, arith}
+use Rattle.desk_core.proofs.Names.{cause_of_answer, cause_of_issue, common_steps, entry_of, get_or-append-add, given_of, inl, inr, length, subst, sym, ℕ, ◌++◌, ◌+◌, ◌<◌, ◌∙◌, ◌∷◌, ◌≡◌, ◌≤◌}
 use Rattle.std.specs.List.{Any}
 use Rattle.std.proofs.Math.ListN.{get_or-append}
-use Rattle.std.proofs.lemmas.Grind.{common_steps}
-use Rattle.std.proofs.lemmas.List.{get_or-append-add}
-use Rattle.step_engine.specs.declared.evolved.EvolveFault.{EvolveFault}
-use Rattle.revision_jobs.specs.Answer.{JobResult}
-use Rattle.revision_jobs.specs.Entries.{entry_of}
-use Rattle.revision_jobs.specs.Posted.{IsOwnAnswer, PostView, Receives}
 use Rattle.revision_jobs.specs.declared.post.Received.TheVariants.{Answer}
 use Rattle.revision_jobs.specs.Room.{HasNoRoom}
 use Rattle.revision_jobs.specs.declared.entries.Entries.{Entries}
-use Rattle.dependency_book.specs.Jobs.{SameBook}
-use Rattle.dependency_book.specs.BookState.{BookState, given_of}
-use Rattle.desk_core.specs.declared.cause.Cause.{Cause}
-use Rattle.desk_core.specs.declared.issue.IssueFault.{IssueFault}
 use Rattle.desk_core.specs.declared.issue.IssueFault.TheVariants as issue
-use Rattle.desk_core.specs.Cause.{cause_of_answer, cause_of_issue}
-use Rattle.desk_core.specs.Issued.{RefusesIssue}
-use Rattle.desk_core.specs.Settling.{Explains, RanOut, SawStop}
 
 -- one of more answers
 

@@ -1,11 +1,7 @@
 -- How many numbers were given.
-use Rattle.std.proofs.Common.{◌≡◌, ◌+◌, ◌∙◌, [], ◌∷◌, length, length-append, ap}
-use Rattle.revision_jobs.specs.declared.answer.Job.{Job}
-use Rattle.desk_events.specs.declared.need.Need.{Need}
-use Rattle.dependency_book.specs.BookState.{BookState, given_of}
-use Rattle.dependency_book.specs.Jobs.{SameBook}
+use Rattle.desk_core.proofs.Names.{BookState, IssuesFor, Job, Need, SameBook, [], ap, given_of, length, ◌+◌, ◌∙◌, ◌∷◌, ◌≡◌}
+use Rattle.std.proofs.Common.{length-append}
 use Rattle.dependency_book.specs.Said.{said_at}
-use Rattle.desk_core.specs.Issued.{IssuesFor}
 
 -- none more
 pub same_given : {old new : BookState} → SameBook old new → given_of new ≡ given_of old

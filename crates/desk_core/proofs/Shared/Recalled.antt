@@ -1,13 +1,5 @@
 -- Jobs that are out after what was computed before was entered.
-use Rattle.std.proofs.Common.{◌≡◌, ◌∙◌, sym, ap, inl, inr, Some}
-use Rattle.revision_jobs.specs.declared.answer.Job.{Job}
-use Rattle.revision_jobs.specs.Value.{Value}
-use Rattle.dependency_book.specs.declared.row.RowState.TheVariants.{Known}
-use Rattle.desk_events.specs.declared.need.Need.{Need}
-use Rattle.dependency_book.specs.RowState.{job_of}
-use Rattle.dependency_book.specs.BookState.{BookState, row_of, expected}
-use Rattle.dependency_book.specs.Recalled.{EntersSteps}
-use Rattle.dependency_book.proofs.Shared.Recalling.{Stays, recalls_row}
+use Rattle.desk_core.proofs.Names.{BookState, EntersSteps, Job, Known, Need, Some, Stays, Value, ap, expected, inl, inr, job_of, recalls_row, row_of, sym, ◌∙◌, ◌≡◌}
 
 -- a job that is out then was out before
 pub recalls_out : (d e : BookState) (need : Need) (out : Job) → EntersSteps d e → expected e need ≡ Some out

@@ -1,17 +1,6 @@
 -- What an edit makes of bookmarks.
-use Rattle.std.proofs.Common.{◌≡◌, ℕ, ◌∙◌, ◌++◌, true, not, ◌&&◌, List, [], ◌∷◌, refl, arith, sym, ap, Option, None, Some}
-use Rattle.std.specs.Prelude.{◌==◌, if◌then◌else◌}
-use Rattle.std.proofs.lemmas.Bool.Decides.{nat_tests}
-use Rattle.std.proofs.lemmas.Bool.{and_parts}
-use Rattle.schedule.specs.declared.document.Bookmark.{Bookmark}
-use Rattle.schedule.specs.Plan.{Plan}
-use Rattle.schedule.specs.Asked.{Asked, AddBookmark, MoveBookmark, RemoveBookmark}
-use Rattle.schedule.specs.Change.{changed, marking, next_bookmark}
-use Rattle.schedule.specs.Ids.{bookmark_id, changed_at, without}
-use Rattle.desk_events.specs.declared.mark.Mark.{Mark}
-use Rattle.desk_events.specs.Wanted.{bookmark_in}
-use Rattle.desk_events.specs.Kept.{keeps_text, leaves_after, takes}
-use Rattle.desk_events.specs.Marks.{bookmark_mark}
+use Rattle.desk_events.proofs.Names.{AddBookmark, Asked, Bookmark, List, Mark, MoveBookmark, None, Option, Plan, RemoveBookmark, Some, [], and_parts, ap, arith, bookmark_id, bookmark_in, bookmark_mark, changed, changed_at, if◌then◌else◌}
+use Rattle.desk_events.proofs.Names.{keeps_text, leaves_after, marking, nat_tests, next_bookmark, not, refl, sym, takes, true, without, ℕ, ◌&&◌, ◌++◌, ◌==◌, ◌∙◌, ◌∷◌, ◌≡◌}
 use Rattle.desk_events.proofs.Shared.Tests.{either_way, clash, true_eq, eq_true}
 
 -- the bookmarks with another, of which one was moved, or without one
@@ -27,9 +16,6 @@ moved id g b = if b.id == id then marking g b else b
 abbrev pub moved_in : ℕ → ℕ → Option Bookmark → Option Bookmark
 moved_in id g None = None
 moved_in id g (Some b) = Some (moved id g b)
-
-pub moved_id : (id g : ℕ) (b : Bookmark) → (moved id g b).id ≡ b.id
-moved_id id g b = grind arith
 
 pub in_moved : (bs : List Bookmark) (i g id : ℕ) → bookmark_in (changed_at bookmark_id (marking g) bs i) id ≡ moved_in i g
     (bookmark_in bs id)

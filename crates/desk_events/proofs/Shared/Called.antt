@@ -1,20 +1,10 @@
 -- The calls of a desk are events of the law.
-use Rattle.std.proofs.Common.{◌≡◌, ℕ, ◌∙◌, Bool, true, false, List, [], ◌∷◌, ◌++◌, length, refl, arith, sym, ap, subst, inl, inr, Option, None, Some}
-use Rattle.std.specs.Prelude.{◌==◌, if◌then◌else◌}
-use Rattle.std.proofs.lemmas.Bool.Decides.{nat_tests}
+use Rattle.desk_events.proofs.Names.{Answer, AreCalls, Asked, Bool, CallsAreEvents, CanEdit, CanHappen, CanIssue, CanRecall, Configuration, Core, EditFault, Event, HappenAll, Happening, Happens, IsCall, IsReached, IsTrue, IsTrueAnswer}
+use Rattle.desk_events.proofs.Names.{IsWithout, List, Mark, Need, None, Option, Recalled, Recalls, Row, Some, [], after_edit, after_event, answered, ap, arith, awaits, cancels, changed, collects, desk, edits, false, finishes, if◌then◌else◌}
+use Rattle.desk_events.proofs.Names.{inl, inr, is_need, issues, length, nat_tests, opened, opened_among, pattern, queued_after, recall, recalls, refl, refusal, step_to, subst, sym, true, unless_refused, world_after, ℕ, ◌++◌, ◌==◌, ◌∙◌, ◌∷◌}
+use Rattle.desk_events.proofs.Names.{◌≡◌}
 use Rattle.std.proofs.Math.Path.{fun_ext}
-use Rattle.schedule.specs.declared.fault.EditFault.{EditFault}
-use Rattle.schedule.specs.Asked.{Asked}
-use Rattle.schedule.specs.Change.{changed, refusal, unless_refused}
-use Rattle.bookmarks.specs.Value.{pattern}
-use Rattle.desk_events.specs.declared.mark.Mark.{Mark}
-use Rattle.desk_events.specs.declared.need.Need.{Need}
-use Rattle.desk_events.specs.Configuration.{Configuration, HappenAll, Happening, Happens, IsReached, IsWithout, desk, finishes, opened_among, queued_after, takes}
-use Rattle.desk_events.specs.Core.{Answer, Core, Row, awaits, opened}
-use Rattle.desk_events.specs.Entry.{world_after}
-use Rattle.desk_events.specs.Event.{CanEdit, CanHappen, CanIssue, CanRecall, Event, IsTrueAnswer, after_edit, after_event, answered, cancels, collects, edits, issues, recalls}
-use Rattle.desk_events.specs.Law.{AreCalls, CallsAreEvents, IsCall, IsTrue, Recalled, Recalls, recall}
-use Rattle.desk_events.specs.Needs.{is_need, step_to}
+use Rattle.desk_events.specs.Configuration.{takes}
 use Rattle.desk_events.proofs.Shared.Right.{answered_out, cancelled_out, kept_out, one_number, picked, recalled_out, unawaited}
 use Rattle.desk_events.proofs.Shared.Tests.{either_way, true_eq}
 use Rattle.desk_events.proofs.Shared.Opened.{opened_none}

@@ -1,26 +1,10 @@
 -- What is to be computed for a row gives what is wanted there.
-use Rattle.std.proofs.Common.{◌≡◌, ℕ, ◌+◌, ◌-◌, ◌<◌, ◌≤◌, ◌∙◌, List, sym, ap, ap₂, arith, subst, Option, Some, inl, inr}
-use Rattle.worlds.specs.World.{World}
-use Rattle.worlds.specs.Lay.{lay}
-use Rattle.worlds.specs.Step.{step}
-use Rattle.worlds.specs.Iterate.{iterate, iterate-zero}
+use Rattle.desk_events.proofs.Names.{BeginsFrom, Entry, IsSound, List, Mark, Need, Option, Plan, Precedes, Some, Step, Stepping, View, Viewing, World, after, ap, ap₂, arith, arrival, arrival-fork, cells_at, fork_of, inl, inr, iterate}
+use Rattle.desk_events.proofs.Names.{iterate-zero, lay, mark_at, name_of, next_of, pattern, start_of, states_of, step, steps, subst, sym, text, text_of, text_wanted, value, views, wanted, world_after, world_seen, ℕ, ◌+◌, ◌-◌, ◌<◌, ◌∙◌, ◌≡◌}
+use Rattle.desk_events.proofs.Names.{◌≤◌}
 use Rattle.rule_tree.specs.declared.rule.Rule.{Rule}
-use Rattle.rule_tree.specs.Rule.{next_of, name_of, states_of}
 use Rattle.bookmarks.specs.declared.view.View.{View as ViewOf}
-use Rattle.bookmarks.specs.Text.{text_of}
-use Rattle.schedule.specs.Branches.{fork_of}
-use Rattle.schedule.specs.Plan.{Plan}
-use Rattle.schedule.specs.Scratch.{cells_at, arrival, after}
-use Rattle.schedule.specs.Sound.{IsSound}
-use Rattle.schedule.proofs.Shared.Lines.{arrival-fork}
-use Rattle.bookmarks.specs.Value.{pattern, text}
-use Rattle.desk_events.specs.Entry.{Entry, Stepping, Viewing, start_of, steps, value, views, world_after, world_seen}
-use Rattle.desk_events.specs.declared.mark.Mark.{Mark}
-use Rattle.desk_events.specs.declared.need.Need.{Need}
-use Rattle.desk_events.specs.declared.need.Need.TheVariants.{Step, View}
 use Rattle.desk_events.specs.Entered.{IsEntryFrom, StepsFrom, ViewsFrom}
-use Rattle.desk_events.specs.Marks.{BeginsFrom, Precedes, mark_at}
-use Rattle.desk_events.specs.Wanted.{wanted, text_wanted}
 use Rattle.desk_events.proofs.Shared.Marks.{mark_placed}
 use Rattle.desk_events.proofs.Shared.Walk.{arrival-gap, mark_within, quiet_at}
 

@@ -1,8 +1,5 @@
 -- Elements of lists by their ids, and what one of a list says.
-use Rattle.std.proofs.Common.{◌≡◌, ℕ, ◌<◌, Bool, true, false, List, [], ◌∷◌, None, Some, refl, arith}
-use Rattle.std.specs.List.{AllByRecursion, list_any}
-use Rattle.schedule.specs.Branches.{element_at}
-use Rattle.schedule.specs.Ids.{IdsRise, has_id}
+use Rattle.desk_events.proofs.Names.{AllByRecursion, Bool, IdsRise, List, None, Some, [], arith, element_at, false, has_id, list_any, refl, true, ℕ, ◌<◌, ◌∷◌, ◌≡◌}
 use Rattle.desk_events.proofs.Shared.Tests.{either_way, eq_true, eq_false}
 
 -- one element that passes a test says something

@@ -1,26 +1,7 @@
 -- The marks of a document that keeps its limits.
-use Rattle.std.proofs.Common.{◌≡◌, ℕ, ◌<◌, ◌≤◌, ◌^◌, ◌∙◌, true, nat_le, List, [], ◌∷◌, refl, sym, ap, ap₂, subst, arith, inl, inr, Option, Some}
-use Rattle.std.specs.Prelude.{◌==◌, ◌||◌}
-use Rattle.std.proofs.lemmas.Bool.Decides.{nat_tests}
-use Rattle.std.specs.Option.{option_map_or}
-use Rattle.std.specs.List.{AllByRecursion, list_any}
-use Rattle.std.proofs.lemmas.Bool.{and_parts, or_cases}
-use Rattle.rule_tree.specs.Rule.{states_of}
-use Rattle.schedule.specs.declared.acts.Acts.{Acts}
-use Rattle.schedule.specs.declared.branch.Branch.{Branch}
-use Rattle.schedule.specs.declared.document.Bookmark.{Bookmark}
-use Rattle.schedule.specs.declared.document.Intervention.{Intervention}
-use Rattle.schedule.specs.Acts.{IsTimely, acts_on, first_of}
-use Rattle.schedule.specs.Branches.{element_at, fork_of, reach}
-use Rattle.schedule.specs.Ids.{branch_id}
-use Rattle.schedule.specs.Plan.{Plan}
-use Rattle.schedule.specs.Scratch.{acts_at}
-use Rattle.schedule.specs.Sound.{IsSound, IsAllowed, IsForked, IsPlaced}
-use Rattle.schedule.proofs.Shared.Acts.{acts-from}
-use Rattle.schedule.proofs.Shared.Branches.{fork_of-zero}
-use Rattle.desk_events.specs.declared.mark.Mark.{Mark}
-use Rattle.desk_events.specs.Wanted.{bookmark_in}
-use Rattle.desk_events.specs.Marks.{is_same, BeginsFrom, ComesBefore, Precedes, acts_within, bookmark_mark, forks_at, is_mark, is_start, mark_at, stands_at}
+use Rattle.desk_events.proofs.Names.{Acts, AllByRecursion, BeginsFrom, Bookmark, Branch, ComesBefore, Intervention, IsAllowed, IsForked, IsPlaced, IsSound, IsTimely, List, Mark, Option, Plan, Precedes, Some, [], acts-from, acts_at, acts_on}
+use Rattle.desk_events.proofs.Names.{acts_within, and_parts, ap, ap₂, arith, bookmark_in, bookmark_mark, branch_id, element_at, first_of, fork_of, fork_of-zero, forks_at, inl, inr, is_mark, is_same, is_start, list_any, mark_at, nat_le}
+use Rattle.desk_events.proofs.Names.{nat_tests, option_map_or, or_cases, reach, refl, stands_at, states_of, subst, sym, true, ℕ, ◌<◌, ◌==◌, ◌^◌, ◌||◌, ◌∙◌, ◌∷◌, ◌≡◌, ◌≤◌}
 use Rattle.desk_events.proofs.Shared.Listed.{all_both, any_so, each_found, found_listed}
 use Rattle.desk_events.proofs.Shared.Tests.{either_way, clash, true_eq}
 

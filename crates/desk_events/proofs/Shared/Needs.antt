@@ -1,10 +1,5 @@
 -- Needs that are one.
-use Rattle.std.proofs.Common.{◌≡◌, true, refl, ap, ap₂}
-use Rattle.std.specs.Prelude.{◌==◌}
-use Rattle.std.proofs.lemmas.Bool.{and_parts}
-use Rattle.desk_events.specs.declared.need.Need.{Need}
-use Rattle.desk_events.specs.declared.need.Need.TheVariants.{Step, View}
-use Rattle.desk_events.specs.Needs.{is_need}
+use Rattle.desk_events.proofs.Names.{Need, Step, View, and_parts, ap, ap₂, is_need, refl, true, ◌==◌, ◌≡◌}
 use Rattle.desk_events.proofs.Shared.Tests.{true_eq, eq_true}
 
 pub need_is : (a b : Need) → is_need a b ≡ true → a ≡ b

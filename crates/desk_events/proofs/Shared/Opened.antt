@@ -1,14 +1,5 @@
 -- A desk that was just opened is right.
-use Rattle.std.proofs.Common.{◌≡◌, ℕ, [], refl, arith}
-use Rattle.std.proofs.lemmas.Bool.Decides.{nat_tests}
-use Rattle.worlds.specs.World.{blank}
-use Rattle.rule_tree.specs.Rule.{still}
-use Rattle.schedule.specs.Plan.{opening}
-use Rattle.schedule.proofs.Sounds.{IsSound-opening}
-use Rattle.desk_events.specs.declared.need.Need.{Need}
-use Rattle.desk_events.specs.declared.need.Need.TheVariants.{Step, View}
-use Rattle.desk_events.specs.Core.{awaits, opened, opened_row}
-use Rattle.desk_events.specs.Right.{IsRight, Stands}
+use Rattle.desk_events.proofs.Names.{IsRight, IsSound-opening, Need, Stands, Step, View, [], arith, awaits, blank, nat_tests, opened, opened_row, opening, refl, still, ℕ, ◌≡◌}
 use Rattle.desk_events.proofs.Shared.Start.{start_wanted}
 
 opened_stands : (revision : ℕ) (need : Need) → Stands [] (opening revision) need (opened_row revision need)

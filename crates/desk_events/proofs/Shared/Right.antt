@@ -1,39 +1,13 @@
 -- Each event leaves a desk right.
-use Rattle.std.proofs.Common.{◌≡◌, ℕ, zero, suc, ◌<◌, ◌∙◌, Bool, true, false, List, [], ◌∷◌, ◌++◌, length, length-append, refl, sym, ap, ap₂, subst, arith, inl, inr, ◌⊎◌, Option, None, Some}
-use Rattle.std.specs.Prelude.{if◌then◌else◌, ◌==◌, slice_get}
-use Rattle.std.proofs.lemmas.Bool.Decides.{nat_tests}
-use Rattle.std.proofs.lemmas.Bool.{and_parts}
+use Rattle.desk_events.proofs.Names.{Answer, AreSameSteps, Asked, Bookmark, Bool, Branch, CanEdit, CanIssue, CanRecall, CellSet, Core, EditFault, Entry, GivesWanted, IsFelt, IsRight, IsSound, IsTrueAnswer, List, Mark, MayBeAsked, Need}
+use Rattle.desk_events.proofs.Names.{None, Option, Plan, ReplaceRule, Row, Some, Stands, Step, Stepping, Value, View, World, [], after_edit, after_event, and_parts, answered, ap, ap₂, arith, arrival, arrival_in, awaits, bookmark_in}
+use Rattle.desk_events.proofs.Names.{cancelled, cancels, changed, collects, edits, false, given_by, holds, if◌then◌else◌, inl, inr, is_need, is_start, issues, iterate, keeps, keeps_bookmark, kept_row, lay, length, length-append, mark_at}
+use Rattle.desk_events.proofs.Names.{nat_tests, next_of, nothing, pattern, recalls, refl, refusal, slice_get, states_of, stays_mark, step, step_to, subst, suc, sym, true, unless_refused, wanted, world_after, world_in, zero, ℕ, ◌++◌, ◌<◌}
+use Rattle.desk_events.proofs.Names.{◌==◌, ◌∙◌, ◌∷◌, ◌≡◌, ◌⊎◌}
 use Rattle.std.proofs.lemmas.Option.{slice_get-get_or, slice_get_within}
 use Rattle.std.proofs.Math.Seq.{get_or-append_seam}
-use Rattle.worlds.specs.World.{World}
-use Rattle.worlds.specs.declared.cell.CellSet.{CellSet}
-use Rattle.worlds.specs.Iterate.{iterate}
-use Rattle.worlds.specs.Lay.{lay}
-use Rattle.worlds.specs.Step.{step}
 use Rattle.rule_tree.specs.declared.rule.Kind.{Kind}
-use Rattle.rule_tree.specs.Rule.{next_of, states_of}
-use Rattle.schedule.specs.declared.branch.Branch.{Branch}
-use Rattle.schedule.specs.declared.document.Bookmark.{Bookmark}
-use Rattle.schedule.specs.declared.fault.EditFault.{EditFault}
-use Rattle.schedule.specs.Asked.{Asked, ReplaceRule}
-use Rattle.schedule.specs.Change.{changed, refusal, unless_refused}
-use Rattle.schedule.specs.Plan.{Plan}
-use Rattle.schedule.specs.Scratch.{arrival}
-use Rattle.schedule.specs.Sound.{IsSound}
 use Rattle.schedule.proofs.Shared.Changed.{HasStates, sound_changed, some_changed}
-use Rattle.bookmarks.specs.Value.{Value, pattern}
-use Rattle.desk_events.specs.declared.mark.Mark.{Mark}
-use Rattle.desk_events.specs.declared.need.Need.{Need}
-use Rattle.desk_events.specs.declared.need.Need.TheVariants.{Step, View}
-use Rattle.desk_events.specs.Core.{Answer, Core, Row, arrival_in, awaits, holds, nothing, world_in}
-use Rattle.desk_events.specs.Entry.{AreSameSteps, Entry, Stepping, world_after}
-use Rattle.desk_events.specs.Event.{CanEdit, CanIssue, CanRecall, IsTrueAnswer, MayBeAsked, after_edit, after_event, answered, cancelled, cancels, collects, edits, given_by, issues, kept_row, recalls}
-use Rattle.desk_events.specs.Felt.{IsFelt}
-use Rattle.desk_events.specs.Kept.{keeps, keeps_bookmark, stays_mark}
-use Rattle.desk_events.specs.Marks.{is_start, mark_at}
-use Rattle.desk_events.specs.Needs.{is_need, step_to}
-use Rattle.desk_events.specs.Right.{GivesWanted, IsRight, Stands}
-use Rattle.desk_events.specs.Wanted.{bookmark_in, wanted}
 use Rattle.desk_events.proofs.Shared.Gives.{Arrives, entry_gives, step_gives}
 use Rattle.desk_events.proofs.Shared.Needs.{need_is}
 use Rattle.desk_events.proofs.Shared.Start.{start_wanted}
@@ -175,9 +149,6 @@ pub unawaited : (answer : Answer) (s : Row) → ((n : ℕ) → s ≡ awaits n �
 unawaited answer s off = grind (arith, nat_tests)
 
 -- a job is cancelled
-
-pub uncancelled : (number : ℕ) (s : Row) → ((n : ℕ) → s ≡ awaits n → (n == number) ≡ false) → cancelled number s ≡ s
-uncancelled number s off = grind (arith, nat_tests)
 
 cancels_row : (c : Core) (need : Need) (number : ℕ) (s : Row) → Stands c.entries c.plan need s
     → Stands c.entries c.plan need (cancelled number s)

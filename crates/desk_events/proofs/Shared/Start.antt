@@ -1,11 +1,5 @@
 -- What starting over gives for a row.
-use Rattle.std.proofs.Common.{◌≡◌, sym, ap, Some}
-use Rattle.schedule.specs.Plan.{Plan}
-use Rattle.schedule.specs.Scratch.{arrival}
-use Rattle.schedule.proofs.Shared.Lines.{arrival-start}
-use Rattle.bookmarks.specs.Value.{pattern}
-use Rattle.desk_events.specs.declared.need.Need.TheVariants.{Step}
-use Rattle.desk_events.specs.Wanted.{wanted}
+use Rattle.desk_events.proofs.Names.{Plan, Some, Step, ap, arrival, arrival-start, pattern, sym, wanted, ◌≡◌}
 
 -- what arrives at the start
 pub start_arrives : (p : Plan) → p.start ≡ arrival p 0 0

@@ -1,24 +1,9 @@
 -- Whatever happens, the desk is right.
-use Rattle.std.proofs.Common.{◌≡◌, ◌⊎◌, ℕ, ◌<◌, List, [], ◌∷◌, ◌++◌, refl, sym, subst, inl, inr, arith, Option, None, Some}
-use Rattle.std.specs.List.{AllByRecursion}
-use Rattle.rule_tree.specs.Rule.{states_of, states_of-still}
-use Rattle.schedule.specs.declared.document.Bookmark.{Bookmark}
-use Rattle.schedule.specs.Plan.{Plan}
-use Rattle.bookmarks.specs.Value.{Value}
-use Rattle.desk_events.specs.declared.need.Need.TheVariants.{View}
-use Rattle.desk_events.specs.Configuration.{AnswersAfter, Configuration, HappenAll, Happening, Happens, HappensToDesk, IsWithout, desk, echoes, finishes, loses_answer, opened_among}
-use Rattle.desk_events.specs.Core.{Answer, Core, Row, shown, shown_for}
-use Rattle.desk_events.specs.Entry.{Entry}
-use Rattle.desk_events.specs.Event.{CanHappen, Event, IsTrueAnswer, after_edit, after_event, cancels, collects, edits, issues, recalls}
-use Rattle.desk_events.specs.Law.{ShowsOnlyScratch, StaysRight}
-use Rattle.desk_events.specs.Right.{IsRight, IsShown, Stands}
-use Rattle.desk_events.specs.Wanted.{bookmark_in, text_wanted}
+use Rattle.desk_events.proofs.Names.{AllByRecursion, Answer, AnswersAfter, Asked, Bookmark, CanHappen, Configuration, Core, EditFault, Entry, Event, HappenAll, Happening, Happens, HappensToDesk, IsRight, IsShown, IsTrueAnswer, IsWithout}
+use Rattle.desk_events.proofs.Names.{List, Mark, None, Option, Plan, Row, ShowsOnlyScratch, Some, Stands, StaysRight, Value, View, [], after_edit, after_event, arith, bookmark_in, cancels, changed, collects, desk, echoes, edits, finishes}
+use Rattle.desk_events.proofs.Names.{inl, inr, issues, loses_answer, opened_among, recalls, refl, refusal, shown, shown_for, states_of, states_of-still, subst, sym, text_wanted, unless_refused, ℕ, ◌++◌, ◌<◌, ◌∷◌, ◌≡◌, ◌⊎◌}
 use Rattle.desk_events.proofs.Shared.Opened.{opened_right}
 use Rattle.desk_events.proofs.Shared.Right.{cancels_right, collects_right, edits_right, edits_some, get_left, issues_right, recalls_right}
-use Rattle.schedule.specs.Change.{changed, refusal, unless_refused}
-use Rattle.schedule.specs.declared.fault.EditFault.{EditFault}
-use Rattle.schedule.specs.Asked.{Asked}
-use Rattle.desk_events.specs.declared.mark.Mark.{Mark}
 
 -- what is kept, whatever happens
 record IsKept (c : Configuration) : Type 0 where

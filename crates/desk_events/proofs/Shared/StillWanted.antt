@@ -1,26 +1,8 @@
 -- What an edit keeps of a document's rows is still wanted.
-use Rattle.std.proofs.Common.{◌≡◌, ℕ, ◌∙◌, true, false, not, ◌&&◌, sym, arith, ap, subst, None, Option, Some, inl, inr}
-use Rattle.std.specs.Prelude.{List, [], ◌∷◌}
-use Rattle.std.proofs.lemmas.Bool.{and_parts}
-use Rattle.worlds.specs.Lay.{lay}
-use Rattle.worlds.specs.World.{World}
-use Rattle.schedule.specs.declared.branch.Branch.{Branch}
-use Rattle.schedule.specs.declared.document.Bookmark.{Bookmark}
-use Rattle.schedule.specs.Alike.{LayAlikeWithin}
-use Rattle.schedule.specs.Asked.{Asked}
-use Rattle.schedule.specs.Change.{changed, refusal}
-use Rattle.schedule.specs.Plan.{Plan}
-use Rattle.schedule.specs.Scratch.{cells_at, scratch}
-use Rattle.schedule.specs.Sound.{AreMarked, IsPlaced, IsSound}
+use Rattle.desk_events.proofs.Names.{AreMarked, Asked, Bookmark, Branch, IsFelt, IsPlaced, IsSound, LayAlikeWithin, List, Mark, Need, None, Option, Plan, Some, Step, View, World, [], and_parts, ap, arith, bookmark_in, bookmark_mark}
+use Rattle.desk_events.proofs.Names.{cells_at, changed, false, felt_from, inl, inr, is_mark, is_start, keeps_arrival, keeps_text, lay, leaves_after, mark_at, not, pattern, refusal, scratch, stays_mark, subst, sym, takes, true, wanted, ℕ}
+use Rattle.desk_events.proofs.Names.{◌&&◌, ◌∙◌, ◌∷◌, ◌≡◌}
 use Rattle.schedule.proofs.Shared.Alike.{arrival-within}
-use Rattle.bookmarks.specs.Value.{pattern}
-use Rattle.desk_events.specs.declared.mark.Mark.{Mark}
-use Rattle.desk_events.specs.declared.need.Need.{Need}
-use Rattle.desk_events.specs.declared.need.Need.TheVariants.{Step, View}
-use Rattle.desk_events.specs.Wanted.{bookmark_in, wanted}
-use Rattle.desk_events.specs.Felt.{IsFelt, felt_from}
-use Rattle.desk_events.specs.Kept.{keeps_text, leaves_after, stays_mark, takes, keeps_arrival}
-use Rattle.desk_events.specs.Marks.{bookmark_mark, is_mark, is_start, mark_at}
 use Rattle.desk_events.proofs.Shared.Bookmarks.{kept_in}
 use Rattle.desk_events.proofs.Leaves.{arrival_left, scratch_left, shown_left}
 use Rattle.desk_events.proofs.Shared.Marks.{bookmark_is_mark}

@@ -1,7 +1,5 @@
 -- What tests decide.
-use Rattle.std.proofs.Common.{◌≡◌, ℕ, ◌<◌, ◌≤◌, ◌≢◌, Bool, true, false, nat_lt, nat_le, refl, arith}
-use Rattle.std.specs.Prelude.{◌==◌}
-use Rattle.std.proofs.lemmas.Bool.Decides.{nat_tests}
+use Rattle.desk_events.proofs.Names.{Bool, arith, false, nat_le, nat_lt, nat_tests, refl, true, ℕ, ◌<◌, ◌==◌, ◌≡◌, ◌≢◌, ◌≤◌}
 
 -- a test decides
 pub either_way : {A : Type 0} (b : Bool) → (b ≡ true → A) → (b ≡ false → A) → A
@@ -9,12 +7,6 @@ either_way {A} b hit miss = elim b as (λ t. b ≡ t → A) [ true ↦ hit | fal
 
 pub clash : {A : Type 0} (b : Bool) → b ≡ true → b ≡ false → A
 clash b h k = absurd cc
-
-pub lt_true : (m n : ℕ) → m < n → nat_lt m n ≡ true
-lt_true m n h = grind (arith, nat_tests)
-
-pub lt_false : (m n : ℕ) → n ≤ m → nat_lt m n ≡ false
-lt_false m n h = grind (arith, nat_tests)
 
 pub true_lt : (m n : ℕ) → nat_lt m n ≡ true → m < n
 true_lt m n h = grind (arith, nat_tests)

@@ -1,25 +1,9 @@
 -- Where an edit changes what interventions set.
-use Rattle.std.proofs.Common.{◌≡◌, ℕ, ◌<◌, ◌≤◌, ◌∙◌, ◌++◌, false, ◌&&◌, nat_le, List, [], ◌∷◌, refl, sym, ap, ap₂, subst, arith, append-nil, Option, None, Some}
-use Rattle.std.specs.Prelude.{◌==◌, min}
-use Rattle.std.proofs.lemmas.Bool.Decides.{nat_tests}
-use Rattle.std.specs.List.{AllByRecursion}
-use Rattle.std.specs.Option.{option_map}
+use Rattle.desk_events.proofs.Names.{Acts, AllByRecursion, Asked, CellSet, Change, IdsRise, Insert, Intervention, IsSound, List, None, Option, Plan, RemoveIntervention, Some, Touched, [], acting, acts-from, acts_on, added, ap, append-nil}
+use Rattle.desk_events.proofs.Names.{ap₂, arith, cells_at, changed, changed_at, element_at, false, first_of, first_touched, intervention_id, min, moved, nat_le, nat_tests, next_intervention, option_map, own_cells, refl, removed, subst, sym}
+use Rattle.desk_events.proofs.Names.{touched_by, without, ℕ, ◌&&◌, ◌++◌, ◌<◌, ◌==◌, ◌∙◌, ◌∷◌, ◌≡◌, ◌≤◌}
 use Rattle.std.proofs.lemmas.Grind.{flat_map-append}
-use Rattle.worlds.specs.declared.cell.CellSet.{CellSet}
-use Rattle.schedule.specs.declared.acts.Acts.{Acts}
-use Rattle.schedule.specs.declared.document.Intervention.{Intervention}
-use Rattle.schedule.specs.Acts.{acts_on, first_of}
-use Rattle.schedule.specs.Asked.{Asked, Insert, Change, RemoveIntervention}
-use Rattle.schedule.specs.Branches.{element_at}
-use Rattle.schedule.specs.Change.{acting, changed, next_intervention}
-use Rattle.schedule.specs.Ids.{IdsRise, changed_at, intervention_id, without}
 use Rattle.schedule.specs.Laws.{SameElsewhere}
-use Rattle.schedule.specs.Plan.{Plan}
-use Rattle.schedule.specs.Scratch.{cells_at, own_cells}
-use Rattle.schedule.specs.Sound.{IsSound}
-use Rattle.schedule.proofs.Shared.Acts.{acts-from}
-use Rattle.desk_events.specs.declared.touched.Touched.{Touched}
-use Rattle.desk_events.specs.Felt.{added, first_touched, moved, removed, touched_by}
 use Rattle.desk_events.proofs.Shared.Tests.{either_way, true_eq}
 use Rattle.desk_events.proofs.Shared.Walk.{own_cells-other}
 

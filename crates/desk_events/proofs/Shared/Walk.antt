@@ -1,28 +1,8 @@
 -- Steps of the way from the start to a mark.
-use Rattle.std.proofs.Common.{◌≡◌, ℕ, suc, ◌+◌, ◌-◌, ◌<◌, ◌≤◌, nat_le, true, false, ◌&&◌, ◌||◌, List, [], ◌∷◌, refl, sym, ap, ◌∙◌, subst, arith, inl, inr, Option, Some}
-use Rattle.std.proofs.lemmas.Bool.Decides.{nat_tests}
-use Rattle.std.specs.Prelude.{◌==◌}
-use Rattle.std.specs.List.{list_any}
-use Rattle.std.specs.Option.{option_map_or}
-use Rattle.std.proofs.lemmas.Bool.{and_parts, cond-false, or_parts}
-use Rattle.worlds.specs.World.{World}
-use Rattle.worlds.specs.Lay.{lay}
-use Rattle.worlds.specs.Step.{step}
-use Rattle.worlds.specs.Iterate.{iterate}
-use Rattle.rule_tree.specs.Rule.{next_of, states_of}
-use Rattle.schedule.specs.declared.branch.Branch.{Branch}
-use Rattle.schedule.specs.declared.document.Bookmark.{Bookmark}
-use Rattle.schedule.specs.declared.document.Intervention.{Intervention}
-use Rattle.schedule.specs.Branches.{element_at, fork_of, reach}
-use Rattle.schedule.specs.Ids.{branch_id}
-use Rattle.schedule.specs.Plan.{Plan}
-use Rattle.schedule.specs.Scratch.{acts_at, own_cells, cells_at, arrival}
-use Rattle.schedule.specs.Sound.{IsAllowed, IsSound}
+use Rattle.desk_events.proofs.Names.{Bookmark, Branch, ComesBefore, Intervention, IsAllowed, IsSound, List, Mark, Option, Plan, Some, World, [], acts_at, acts_within, and_parts, ap, arith, arrival, arrival-undisturbed, branch_id, cells_at}
+use Rattle.desk_events.proofs.Names.{cond-false, element_at, false, fork_of, forks_at, forks_rise, inl, inr, is_mark, is_start, iterate, lay, list_any, mark_at, nat_le, nat_tests, next_of, option_map_or, or_parts, own_cells, reach, refl}
+use Rattle.desk_events.proofs.Names.{stands_at, states_of, step, subst, suc, sym, true, ℕ, ◌&&◌, ◌+◌, ◌-◌, ◌<◌, ◌==◌, ◌||◌, ◌∙◌, ◌∷◌, ◌≡◌, ◌≤◌}
 use Rattle.schedule.proofs.Shared.Reach.{reach-greatest}
-use Rattle.schedule.proofs.Shared.Branches.{forks_rise}
-use Rattle.schedule.proofs.Shared.Lines.{arrival-undisturbed}
-use Rattle.desk_events.specs.declared.mark.Mark.{Mark}
-use Rattle.desk_events.specs.Marks.{ComesBefore, acts_within, forks_at, is_mark, is_start, mark_at, stands_at}
 use Rattle.desk_events.proofs.Shared.Listed.{all_both, each_found}
 use Rattle.desk_events.proofs.Shared.Marks.{mark_placed, marks_so}
 use Rattle.desk_events.proofs.Shared.Tests.{le_true, true_eq, true_le}

@@ -1,11 +1,6 @@
 -- What lines ask.
-use Rattle.std.proofs.Common.{◌≡◌, ℕ, ◌+◌, List, [], ◌∷◌, ◌++◌, length, Bool, true, false, refl, append_assoc, append-nil, arith, None, Some}
-use Rattle.text_lines.specs.Lines.{End, Line}
-use Rattle.script_lines.specs.ScriptLine.{NoneEnds, raw_bytes, is_end, is_passed_over}
-use Rattle.script_lines.specs.Script.{MayFollow}
-use Rattle.desk_script.specs.Command.{command_of, format_of}
-use Rattle.desk_script.specs.Asks.{Take, asks, asked_by, Between, InText, without_end}
-use Rattle.desk_script.specs.declared.format.Format.{Format}
+use Rattle.desk_script.proofs.Names.{Between, Bool, End, Format, InText, Line, List, MayFollow, None, NoneEnds, Some, Take, [], append-nil, append_assoc, arith, asked_by, asks, command_of, false, format_of, is_end, is_passed_over, length}
+use Rattle.desk_script.proofs.Names.{raw_bytes, refl, true, without_end, ℕ, ◌++◌, ◌+◌, ◌∷◌, ◌≡◌}
 
 -- lines up to one that is `end` are the text
 pub asks-text : (stop : End) (at : ℕ) (f : Format) (kept : List ℕ) (n : ℕ) (lines : List Line) (closing : Line)

@@ -1,10 +1,7 @@
 -- Lines or parts of a reply, one after the other.
-use Rattle.std.proofs.Common.{◌≡◌, ℕ, zero, suc, ◌+◌, ◌<◌, List, [], ◌∷◌, ◌++◌, length, drop, get_or, refl, sym, ◌∙◌, append_assoc, arith, subst, Option, Result}
-use Rattle.std.specs.Prelude.{flat_map}
+use Rattle.desk_script.proofs.Names.{Appends, AppendsFront, IsUnderWay, List, Option, Result, Wrote, [], append_assoc, arith, drop, flat_map, front_first, front_then, get_or, length, refl, subst, suc, sym, zero, ℕ, ◌++◌, ◌+◌, ◌<◌, ◌∙◌, ◌∷◌}
+use Rattle.desk_script.proofs.Names.{◌≡◌}
 use Rattle.std.proofs.KnownBytes.{Appends-trans}
-use Rattle.std.specs.Io.KnownBytes.{Appends}
-use Rattle.script_lines.specs.Faults.{AppendsFront, Wrote}
-use Rattle.script_lines.proofs.Shared.Told.{IsUnderWay, front_first, front_then}
 
 -- what was written, and then what a call wrote
 pub wrote_then : {T E : Type 0} (a b c : Option (List ℕ)) (r : Result T E) (xs ys : List ℕ) → Appends a b xs

@@ -1,17 +1,14 @@
 -- Lines of edits, read back.
-use Rattle.std.proofs.Common.{◌≡◌, ◌∙◌, ℕ, suc, ◌+◌, ◌<◌, ◌≤◌, ◌^◌, ◌-◌, ◌==◌, ℤ, pos, negsuc, List, [], ◌∷◌}
-use Rattle.std.proofs.Common.{◌++◌, length, true, false, codes, decimal, refl, sym, ap, ap₂, append_assoc, append-nil}
-use Rattle.std.proofs.Common.{subst, arith, Some, None, FitsSigned, w64, All}
-use Rattle.std.specs.Prelude.{flat_map}
-use Rattle.std.specs.Option.{option_map}
+use Rattle.desk_script.proofs.Names.{AddBookmark, AddBranch, All, AllByRecursion, AreCounts, AreWritten, Asked, Between, CellSet, Edit, EditLinesReadBack, Every, FitsSigned, Insert, IsCount, IsWrittenCell, IsWrittenView, List, None, Once}
+use Rattle.desk_script.proofs.Names.{ReadsBack, RemoveBookmark, RemoveBranch, RemoveIntervention, Some, View, [], alone, ap, append-nil, append_assoc, ap₂, arith, asked_by, asked_of, asks, before, cell_of, cell_words, cells_of, cells_set}
+use Rattle.desk_script.proofs.Names.{codes, command_of_words, count_of, decimal, edit_line, false, flat_map, format_of_words, full_line, is_passed_over, is_word, length, lines_until, list_all, negsuc, option_map, pos, refl, subst, suc, sym}
+use Rattle.desk_script.proofs.Names.{true, view_of, view_words, w64, words, ℕ, ℤ, ◌++◌, ◌+◌, ◌-◌, ◌<◌, ◌==◌, ◌^◌, ◌∙◌, ◌∷◌, ◌≡◌, ◌≤◌}
 use Rattle.std.specs.Fmt.{signed_decimal}
-use Rattle.std.specs.List.{AllByRecursion, list_all}
 use Rattle.std.proofs.lemmas.Int.{ints}
 use Rattle.std.proofs.lemmas.List.Elements.{All-from_recursion}
 use Rattle.std.proofs.lemmas.List.Splits.{slice_split_at, slice_split_none}
 use Rattle.basics.proofs.Shared.Lists.{all_append, all_so}
 use Rattle.text_lines.specs.Blanks.{trim}
-use Rattle.text_lines.specs.Lines.{full_line, lines_until}
 use Rattle.text_lines.specs.Numbers.{number_of}
 use Rattle.text_lines.proofs.Shared.ByteRanges.{IsDigit, IsPrinted, IsVisible, differs, digit-visible, is_visible}
 use Rattle.text_lines.proofs.Shared.ByteRanges.{visible-printed, visible-tested}
@@ -20,23 +17,10 @@ use Rattle.text_lines.proofs.Shared.LineEnds.{line-first}
 use Rattle.text_lines.proofs.Shared.PrintedLines.{EndsSolid, IsLine, line-visible, ends-append, ends-behind}
 use Rattle.text_lines.proofs.Shared.PrintedLines.{ends-visible, line-between, printed-one, strip-printed}
 use Rattle.script_lines.specs.Numbers.{integer_of}
-use Rattle.script_lines.specs.ScriptLine.{is_passed_over}
-use Rattle.script_lines.specs.Words.{is_word, words}
-use Rattle.worlds.specs.declared.cell.CellSet.{CellSet}
-use Rattle.bookmarks.specs.declared.view.View.{View}
 use Rattle.bookmarks.specs.declared.view.View.TheVariants as view
 use Rattle.schedule.specs.declared.acts.Acts.{Acts}
-use Rattle.schedule.specs.declared.acts.Acts.TheVariants.{Once, Every}
-use Rattle.schedule.specs.declared.edit.Edit.{Edit}
 use Rattle.schedule.specs.declared.edit.Edit.TheVariants as edit
-use Rattle.schedule.specs.Asked.{Asked, asked_of, AddBookmark, AddBranch, Insert}
-use Rattle.schedule.specs.Asked.{RemoveBookmark, RemoveBranch, RemoveIntervention}
 use Rattle.desk_script.specs.Numbers.{coordinate, up_to}
-use Rattle.desk_script.specs.View.{alone, view_of}
-use Rattle.desk_script.specs.Command.{before, cell_of, cells_of, cells_set, command_of_words, count_of, format_of_words}
-use Rattle.desk_script.specs.Scripted.{view_words, cell_words, edit_line}
-use Rattle.desk_script.specs.Asks.{Between, asked_by, asks}
-use Rattle.desk_script.specs.ReadsBack.{AreCounts, AreWritten, EditLinesReadBack, IsCount, IsWrittenCell, IsWrittenView, ReadsBack}
 use Rattle.desk_script.specs.declared.command.Command.TheVariants as command
 use Rattle.desk_script.proofs.Shared.Asks.{asks-command}
 

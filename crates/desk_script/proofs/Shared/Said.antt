@@ -1,26 +1,13 @@
 -- Which edits lines ask for.
-use Rattle.std.proofs.Common.{◌≡◌, ℕ, ◌<◌, List, [], ◌∷◌, ◌++◌, Bool, true, false, cond, codes, Option, Some, None, IfSome, arith, min, ◌-◌, ◌^◌, ◌+◌, length}
-use Rattle.std.specs.List.{AllByRecursion}
-use Rattle.std.specs.Option.{option_map, option_zip}
+use Rattle.desk_script.proofs.Names.{AddBranch, AllByRecursion, Ask, Asked, Between, Bool, Broken, CellSet, Change, Command, Edit, End, Ended, Format, IfSome, InText, Insert, IsCount, IsWrittenDistance, Line, LinePlace, List, None, Obey}
+use Rattle.desk_script.proofs.Names.{Option, ReplaceRule, Some, Take, View, [], adds_branch, alone, arith, asked_at, asked_by, asked_of, asks, bytes_eq, cells_of, cells_set, change_named, change_of, changed_by, codes, command_of}
+use Rattle.desk_script.proofs.Names.{command_of_words, cond, counted, edit_by, edit_in_branch, edit_in_named, false, format_of, further_edit_by, is_end, is_passed_over, length, looking_by, min, on_of, one_count, option_map, option_zip}
+use Rattle.desk_script.proofs.Names.{place_behind, repeated_by, repeated_of, some_cells, true, view_of, words, ℕ, ◌++◌, ◌+◌, ◌-◌, ◌<◌, ◌^◌, ◌∷◌, ◌≡◌}
 use Rattle.std.specs.Prelude.{⊤}
-use Rattle.std.specs.Str.{bytes_eq}
-use Rattle.text_lines.specs.Lines.{End, Ended, Broken, Line}
-use Rattle.script_lines.specs.ScriptLine.{is_passed_over, is_end}
-use Rattle.script_lines.specs.Words.{words}
-use Rattle.bookmarks.specs.declared.view.View.{View}
-use Rattle.schedule.specs.declared.edit.Edit.{Edit}
 use Rattle.schedule.specs.declared.edit.Edit.TheVariants as edit
-use Rattle.schedule.specs.Asked.{Asked, asked_of, Insert, Change, ReplaceRule, AddBranch}
 use Rattle.schedule.proofs.Shared.Changed.{HasStates}
-use Rattle.worlds.specs.declared.cell.CellSet.{CellSet}
-use Rattle.desk_script.specs.ReadsBack.{IsCount, IsWrittenDistance}
 use Rattle.desk_script.specs.declared.interventions.Repeated.{Repeated}
-use Rattle.desk_script.specs.declared.format.Format.{Format}
-use Rattle.desk_script.specs.declared.command.Command.{Command}
 use Rattle.desk_script.specs.declared.command.Command.TheVariants as command
-use Rattle.desk_script.specs.View.{alone, view_of}
-use Rattle.desk_script.specs.Command.{cells_of, repeated_by, some_cells, cells_set, counted, on_of, change_of, change_named, changed_by, repeated_of, edit_in_branch, edit_in_named, further_edit_by, edit_by, looking_by, command_of, command_of_words, format_of, one_count, adds_branch}
-use Rattle.desk_script.specs.Asks.{Ask, Obey, Take, asked_at, asked_by, asks, Between, InText, LinePlace, place_behind}
 
 -- the edit adds no branch
 abbrev pub AddsNone : Asked → Type 0

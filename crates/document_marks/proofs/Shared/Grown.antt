@@ -1,28 +1,14 @@
 -- How many marks and bookmarks an edit leaves at most.
-use Rattle.std.proofs.Common.{◌≡◌, ℕ, ◌+◌, ◌≤◌, Bool, false, List, [], ◌∷◌, ◌++◌, length, refl, subst, arith, length-append, Ok, None, Some, Option}
-use Rattle.std.specs.Prelude.{◌==◌, ◌||◌, not}
-use Rattle.std.specs.List.{AllByRecursion, list_any}
-use Rattle.std.proofs.lemmas.Bool.{or_parts}
-use Rattle.std.proofs.lemmas.List.{length-map}
-use Rattle.std.proofs.lemmas.List.Sums.{sum_by-cons}
-use Rattle.basics.proofs.Shared.Lists.{all_append}
+use Rattle.document_marks.proofs.Names.{AddBookmark, AddBranch, AllByRecursion, Asked, Bool, Change, Insert, Intervention, IsSound, List, MoveBookmark, None, Ok, Option, Plan, RemoveBookmark, RemoveBranch, RemoveIntervention, ReplaceRule}
+use Rattle.document_marks.proofs.Names.{ReplaceStart, SetCells, Some, [], all_append, arith, asks_to_repeat, changed_at, each_filter, each_map, either_way, false, intervention_id, length, length-filter_le, length-map, list_any}
+use Rattle.document_marks.proofs.Names.{marks_at_most, marks_at_most_after, marks_to, marks_within, most_repeats, not, or_parts, reach, refl, repeat_marks, repeats, subst, sum_by-cons, without, ℕ, ◌++◌, ◌+◌, ◌==◌, ◌||◌, ◌∷◌, ◌≡◌, ◌≤◌}
+use Rattle.std.proofs.Common.{length-append}
 use Rattle.schedule.specs.declared.acts.Acts.{Acts}
 use Rattle.schedule.specs.declared.acts.Acts.TheVariants.{Once, Every}
-use Rattle.schedule.specs.declared.document.Intervention.{Intervention}
 use Rattle.schedule.specs.declared.edit.Edited.{Edited}
 use Rattle.schedule.specs.declared.fault.EditFault.{EditFault}
-use Rattle.schedule.specs.Acts.{marks_to, repeats}
-use Rattle.schedule.specs.Asked.{Asked, Insert, Change, RemoveIntervention, SetCells, ReplaceStart, ReplaceRule, AddBookmark, MoveBookmark, RemoveBookmark, AddBranch, RemoveBranch}
-use Rattle.schedule.specs.Branches.{reach}
 use Rattle.schedule.specs.Change.{Changed, change, changed, made, refusal, unless_refused}
-use Rattle.schedule.specs.Ids.{intervention_id, changed_at, without}
-use Rattle.schedule.specs.Plan.{Plan}
-use Rattle.schedule.specs.Repeats.{marks_within, repeat_marks}
-use Rattle.schedule.specs.Sound.{IsSound}
 use Rattle.schedule.proofs.Shared.Fits.{few_marks-changed}
-use Rattle.schedule.proofs.Shared.Ids.{each_filter, each_map, length-filter_le}
-use Rattle.document_marks.specs.MostMarks.{asks_to_repeat, marks_at_most, marks_at_most_after, most_repeats}
-use Rattle.desk_events.proofs.Shared.Tests.{either_way}
 
 -- what an accepted edit made
 pub accepted : (o : Option EditFault) (c e : Changed) → unless_refused o c ≡ Ok e → c ≡ e

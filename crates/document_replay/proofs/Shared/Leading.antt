@@ -1,15 +1,6 @@
 -- Edits that lead from one document to another, and those that add the elements of a list.
-use Rattle.std.proofs.Common.{◌≡◌, ℕ, zero, suc, ◌+◌, ◌-◌, ◌*◌, ◌<◌, ◌≤◌, ◌^◌, List, [], ◌∷◌, ◌++◌, length, refl, sym, ap, ap₂, ◌∙◌, subst, arith, length-append}
-use Rattle.std.specs.Prelude.{flat_map}
-use Rattle.std.specs.List.{AllByRecursion, range_with_len}
-use Rattle.std.proofs.lemmas.List.{append-nil, append_assoc}
-use Rattle.basics.proofs.Shared.Lists.{all_append, all_so}
-use Rattle.schedule.specs.Asked.{Asked}
-use Rattle.schedule.specs.Change.{changed}
-use Rattle.schedule.specs.Ids.{IdsRise}
-use Rattle.schedule.specs.Plan.{Plan}
-use Rattle.document_replay.specs.Law.{Lead, last_id}
-use Rattle.document_replay.specs.Replay.{add_all, ids_between}
+use Rattle.document_replay.proofs.Names.{AllByRecursion, Asked, IdsRise, Lead, List, Plan, [], add_all, all_append, all_so, ap, append-nil, append_assoc, ap₂, arith, changed, flat_map, ids_between, last_id, length, length-append}
+use Rattle.document_replay.proofs.Names.{range_with_len, refl, subst, suc, sym, zero, ℕ, ◌*◌, ◌++◌, ◌+◌, ◌-◌, ◌<◌, ◌^◌, ◌∙◌, ◌∷◌, ◌≡◌, ◌≤◌}
 
 -- to an equal document
 pub lead_to : (edits : List Asked) (p q r : Plan) → Lead edits p q → q ≡ r → Lead edits p r
@@ -106,20 +97,3 @@ add_all_lead id skip add at xs all done (x ∷ rest) k last is given above rise 
     (lead_on (add x ∷ []) later before after end here
     (lead_to later after (at (k + 2 * n + 1 + length later) xs (last_id id (id x) rest)) end behind
     (ap (λ a. at a xs (last_id id (id x) rest)) (omega (arith, long, twice)))))
-
--- the edits for a list with one more element at its end
-pub add_all-push : {X : Type 0} (id : X → ℕ) (skip : ℕ → List Asked) (add : X → Asked) (last : ℕ) (xs : List X) (x : X)
-    → add_all id skip add last (xs ++ x ∷ [])
-    ≡ add_all id skip add last xs
-    ++ (flat_map skip (ids_between (last_id id last xs) (id x)) ++ add x ∷ [])
-add_all-push id skip add last [] x = refl
-add_all-push id skip add last (y ∷ xs) x =
-    let gap : List Asked = flat_map skip (ids_between last (id y)) in
-    let end : List Asked = flat_map skip (ids_between (last_id id (id y) xs) (id x)) ++ add x ∷ [] in
-    ap (λ edits. gap ++ add y ∷ edits) (add_all-push id skip add (id y) xs x)
-    ∙ sym (append_assoc gap (add y ∷ add_all id skip add (id y) xs) end)
-
--- the last id of such a list
-pub last_id-push : {X : Type 0} (id : X → ℕ) (last : ℕ) (xs : List X) (x : X) → last_id id last (xs ++ x ∷ []) ≡ id x
-last_id-push id last [] x = refl
-last_id-push id last (y ∷ xs) x = last_id-push id (id y) xs x

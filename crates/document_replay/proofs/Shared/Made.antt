@@ -1,25 +1,10 @@
 -- What holds of every document that edits made of an opening one.
-use Rattle.std.proofs.Common.{◌≡◌, ℕ, ◌+◌, ◌*◌, ◌<◌, ◌≤◌, Bool, not, List, [], ◌∷◌, ◌++◌, length, refl, sym, subst, arith, None, length-append}
-use Rattle.std.specs.Prelude.{if◌then◌else◌, ◌==◌}
-use Rattle.std.specs.List.{AllByRecursion}
-use Rattle.std.proofs.lemmas.List.{length-map}
-use Rattle.basics.proofs.Shared.Lists.{all_append}
-use Rattle.worlds.specs.declared.cell.CellSet.{CellSet}
-use Rattle.schedule.specs.declared.acts.Acts.{Acts}
-use Rattle.schedule.specs.declared.document.Intervention.{Intervention}
-use Rattle.schedule.specs.declared.document.Bookmark.{Bookmark}
-use Rattle.schedule.specs.declared.branch.Branch.{Branch}
-use Rattle.schedule.specs.Asked.{Asked, Insert, Change}
-use Rattle.schedule.specs.Asked.{RemoveIntervention, AddBookmark, MoveBookmark}
-use Rattle.schedule.specs.Asked.{RemoveBookmark, AddBranch, RemoveBranch}
-use Rattle.schedule.specs.Change.{acting, changed, marking, next_bookmark, next_branch, next_intervention, refusal}
-use Rattle.schedule.specs.Change.{with_changed_intervention, with_intervention}
-use Rattle.schedule.specs.Ids.{IdsRise, bookmark_id, branch_id, changed_at, intervention_id, without}
-use Rattle.schedule.specs.Plan.{Plan, opening}
+use Rattle.document_replay.proofs.Names.{Acts, AddBookmark, AddBranch, AllByRecursion, Asked, Bookmark, Bool, Branch, CellSet, Change, DocumentsAreMadeAnew, EditsMakeDocuments, IdsRise, Insert, Intervention, IsMade, Lead, List}
+use Rattle.document_replay.proofs.Names.{MoveBookmark, None, Plan, RemoveBookmark, RemoveBranch, RemoveIntervention, [], acting, add_bookmark, add_branch, add_intervention, all_append, arith, bookmark_id, branch_id, changed, changed_at}
+use Rattle.document_replay.proofs.Names.{if◌then◌else◌, intervention_id, last_id, length, length-append, length-map, marking, next_bookmark, next_branch, next_intervention, not, opening, refl, refusal, row_edits, skip_bookmark, skip_branch}
+use Rattle.document_replay.proofs.Names.{skip_intervention, subst, sym, with_changed_intervention, with_intervention, without, ℕ, ◌*◌, ◌++◌, ◌+◌, ◌<◌, ◌==◌, ◌∷◌, ◌≡◌, ◌≤◌}
 use Rattle.schedule.proofs.Shared.Ids.{each_filter, each_map, given_push, rise_filter, rise_map, rise_push}
 use Rattle.schedule.proofs.Unrefused.{fit_change, fit_insertion}
-use Rattle.document_replay.specs.Law.{DocumentsAreMadeAnew, EditsMakeDocuments, IsMade, Lead, last_id}
-use Rattle.document_replay.specs.Replay.{add_bookmark, add_branch, add_intervention, row_edits, skip_bookmark, skip_branch, skip_intervention}
 use Rattle.document_replay.proofs.Elements.{length-without}
 use Rattle.document_replay.proofs.Shared.Leading.{length-add_all}
 use Rattle.document_replay.proofs.Shared.Remade.{length-rows, made_anew}

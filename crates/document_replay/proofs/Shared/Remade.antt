@@ -1,13 +1,6 @@
 -- The edits for a document make it anew.
-use Rattle.std.proofs.Common.{◌≡◌, ◌+◌, ◌<◌, ◌^◌, List, [], ◌∷◌, ◌++◌, length, refl, ap, arith, length-append}
-use Rattle.std.specs.List.{AllByRecursion}
-use Rattle.basics.proofs.Shared.Lists.{all_so}
-use Rattle.schedule.specs.declared.branch.Branch.{Branch}
-use Rattle.schedule.specs.Asked.{Asked, ReplaceRule, ReplaceStart}
-use Rattle.schedule.specs.Plan.{Plan, opening}
-use Rattle.schedule.specs.Sound.{IsForked, IsSound}
-use Rattle.document_replay.specs.Law.{IsMade, Lead, RowsAreMadeAnew, bare, remade}
-use Rattle.document_replay.specs.Replay.{bookmark_edits, branch_edits, edits_for, intervention_edits, row_edits}
+use Rattle.document_replay.proofs.Names.{AllByRecursion, Asked, Branch, IsForked, IsMade, IsSound, Lead, List, Plan, ReplaceRule, ReplaceStart, RowsAreMadeAnew, [], all_so, ap, arith, bare, bookmark_edits, branch_edits, edits_for}
+use Rattle.document_replay.proofs.Names.{intervention_edits, length, length-append, opening, refl, remade, row_edits, ◌++◌, ◌+◌, ◌<◌, ◌^◌, ◌∷◌, ◌≡◌}
 use Rattle.document_replay.proofs.Shared.Worlds.{rule_leads, start_leads}
 use Rattle.document_replay.proofs.Branches.{branches_added, with_branches}
 use Rattle.document_replay.proofs.Bookmarks.{bookmarks_added, with_bookmarks}

@@ -1,19 +1,9 @@
 -- The rule and the start of a document aren't refused.
-use Rattle.std.proofs.Common.{◌≡◌, ℕ, ◌+◌, ◌<◌, ◌^◌, true, [], ◌∷◌, map, nat_lt, refl, ap, ◌∙◌, arith, ℤ, pos, neg_ℤ, ◌≤ℤ◌, ◌<ℤ◌, ◌+ℤ◌, ◌-ℤ◌, None}
-use Rattle.std.specs.Prelude.{◌&&◌}
-use Rattle.std.specs.List.{list_all}
-use Rattle.std.proofs.lemmas.Bool.Decides.{nat_tests}
+use Rattle.document_replay.proofs.Names.{IsSound, Lead, None, Place, Plan, ReplaceRule, ReplaceStart, World, [], all_pass, ap, arith, bare, blank, cell, entries-blank, is_named, lies_below, lies_near, list_all, map, nat_lt, nat_tests}
+use Rattle.document_replay.proofs.Names.{neg_ℤ, opening, pos, refl, refusal, states_of, true, ℕ, ℤ, ◌&&◌, ◌+ℤ◌, ◌+◌, ◌-ℤ◌, ◌<ℤ◌, ◌<◌, ◌^◌, ◌∙◌, ◌∷◌, ◌≡◌, ◌≤ℤ◌}
 use Rattle.std.proofs.lemmas.Int.{ints}
-use Rattle.worlds.specs.World.{Place, World, blank, cell, entries-blank}
 use Rattle.worlds.specs.Live.{as_live, live, live-entries, live-states}
 use Rattle.worlds.specs.Range.{AllBelow, HasMargin, IsInside}
-use Rattle.rule_tree.specs.Rule.{states_of}
-use Rattle.schedule.specs.Asked.{ReplaceRule, ReplaceStart}
-use Rattle.schedule.specs.Change.{is_named, lies_below, lies_near, refusal}
-use Rattle.schedule.specs.Plan.{Plan, opening}
-use Rattle.schedule.specs.Sound.{IsSound}
-use Rattle.schedule.proofs.Each.{all_pass}
-use Rattle.document_replay.specs.Law.{Lead, bare}
 
 pub named : (x y : ℤ) → IsInside (2 ^ 60) x y → (is_named x && is_named y) ≡ true
 named x y h = grind (arith, named_one x h.left h.right, named_one y h.top h.bottom)

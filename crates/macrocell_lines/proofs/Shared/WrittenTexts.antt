@@ -1,20 +1,9 @@
 -- Texts that are written read back.
-use Rattle.std.proofs.Common.{◌≡◌, ◌∙◌, ap, refl, ℕ, ◌+◌, ◌^◌, ◌<◌, ◌==◌, false, not, cond, List, [], ◌∷◌, ◌++◌, length, map, Some, None, Ok, position, nat_lt, arith, decimal}
-use Rattle.std.specs.Prelude.{codes}
-use Rattle.std.specs.List.{AllByRecursion, position_or_len}
-use Rattle.std.proofs.lemmas.Bool.Decides.{nat_tests}
-use Rattle.basics.specs.Results.{◌>>=◌}
-use Rattle.macrocell_lines.specs.declared.node.Node.{Node}
-use Rattle.macrocell_lines.specs.Laws.{WrittenSaysTheSame}
-use Rattle.macrocell_lines.specs.MacrocellText.{after_line, after_lines, nothing_said, said_by}
-use Rattle.macrocell_lines.specs.Nodes.{AreNodes}
-use Rattle.macrocell_lines.specs.WrittenText.{node_line, written_lines}
-use Rattle.basics.proofs.Shared.Lists.{all_so}
+use Rattle.macrocell_lines.proofs.Names.{AllByRecursion, AreNodes, IsDigit, IsLine, IsPrinted, IsVisible, List, Node, None, Ok, Some, WrittenSaysTheSame, [], after_line, after_lines, all_so, ap, arith, codes, cond, decimal, decimal-numeral}
+use Rattle.macrocell_lines.proofs.Names.{differs, digit-visible, ends-append, ends-visible, false, length, line-between, map, name-visible, nat_lt, nat_tests, node_line, not, nothing_said, position, position_or_len, printed-tested, refl}
+use Rattle.macrocell_lines.proofs.Names.{said_by, says-lines, trim-blank, visible-printed, written_lines, ℕ, ◌++◌, ◌+◌, ◌<◌, ◌==◌, ◌>>=◌, ◌^◌, ◌∙◌, ◌∷◌, ◌≡◌}
 use Rattle.text_lines.specs.RuleNames.{IsName, IsNameByte}
-use Rattle.text_lines.proofs.Shared.ByteRanges.{IsDigit, IsPrinted, IsVisible, differs, digit-visible, printed-tested, visible-printed}
-use Rattle.text_lines.proofs.Shared.Decimals.{decimal-numeral}
 use Rattle.macrocell_lines.proofs.NumberLines.{number_in-decimal}
-use Rattle.text_lines.proofs.Shared.PrintedLines.{IsLine, ends-append, ends-visible, line-between, name-visible, says-lines, trim-blank}
 use Rattle.macrocell_lines.proofs.WrittenNodes.{node-lines, nodes-taken}
 
 colon_none : (name : List ℕ) → AllByRecursion IsNameByte name → position_or_len (λ b. b == 58) name ≡ length name

@@ -1,19 +1,11 @@
 -- The generations at which repeating interventions act.
-use Rattle.std.proofs.Common.{◌≡◌, ℕ, zero, suc, ◌+◌, ◌-◌, ◌*◌, ◌/◌, ◌%◌, ◌<◌, ◌≤◌, ◌==◌, true, false, ◌&&◌, nat_le, cond, List, [], ◌∷◌, map, filter, length, refl, sym, ap, ◌∙◌, arith}
-use Rattle.std.specs.Prelude.{if◌then◌else◌, min}
-use Rattle.std.specs.List.{list_any}
-use Rattle.std.proofs.Math.Nat.{add-mod_right, add-div_right, mod-eq_of_lt, div-eq_of_lt, div-zero, zero-mod, mod-zero, mul-mod_left, mod-add-div'}
+use Rattle.schedule.proofs.Names.{Acts, CellSet, Every, IsProgression, IsTimely, List, Once, [], acts_on, add-div_right, add-mod_right, and_parts, ap, append-nil, arith, cond, count_between, div-eq_of_lt, div-zero, false, filter, first_of}
+use Rattle.schedule.proofs.Names.{generations_of, generations_to, if◌then◌else◌, length, list_any, map, marks_to, min, mod-add-div', mod-eq_of_lt, mod-zero, mul-mod_left, nat_le, nat_tests, refl, suc, sym, true, zero, zero-mod, ℕ, ◌%◌}
+use Rattle.schedule.proofs.Names.{◌&&◌, ◌*◌, ◌+◌, ◌-◌, ◌/◌, ◌<◌, ◌==◌, ◌∙◌, ◌∷◌, ◌≡◌, ◌≤◌}
 use Rattle.std.proofs.Math.Bool.{and_comm}
-use Rattle.std.proofs.lemmas.Bool.Decides.{nat_tests}
-use Rattle.std.proofs.lemmas.Bool.{and_parts}
-use Rattle.std.proofs.lemmas.List.{append-nil}
 use Rattle.std.proofs.lemmas.Map.Views.{any-filter_same}
-use Rattle.worlds.specs.declared.cell.CellSet.{CellSet}
 use Rattle.worlds.specs.Arrival as line
-use Rattle.schedule.specs.declared.acts.Acts.{Acts}
-use Rattle.schedule.specs.declared.acts.Acts.TheVariants.{Once, Every}
-use Rattle.schedule.specs.Acts.{acts_on, first_of, count_between, progression, generations_of, generations_to, marks_to, IsTimely}
-use Rattle.schedule.specs.Laws.{IsProgression}
+use Rattle.schedule.specs.Acts.{progression}
 
 -- past the last there is none, and up to it one more than after the first
 count-none : (first every most : ℕ) → most < first → count_between first every most ≡ 0

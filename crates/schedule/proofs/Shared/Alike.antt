@@ -1,18 +1,7 @@
 -- What documents share whose interventions lay on what arrives to equal worlds.
-use Rattle.std.proofs.Common.{◌≡◌, ℕ, ◌≤◌, ◌==◌, true, ◌∙◌, List, [], ◌∷◌, ap, arith, None, Some}
-use Rattle.std.specs.Prelude.{⊤, IfSome}
-use Rattle.std.specs.List.{AllByRecursion}
-use Rattle.std.specs.Option.{option_map_or}
-use Rattle.std.proofs.lemmas.Bool.Decides.{nat_tests}
-use Rattle.worlds.specs.World.{World}
-use Rattle.rule_tree.specs.declared.rule.Rule.{Rule}
-use Rattle.schedule.specs.declared.branch.Branch.{Branch}
+use Rattle.schedule.proofs.Names.{AllByRecursion, Branch, IfSome, IsSound, List, None, Plan, Rule, Some, World, [], ap, arith, arrival, branch_id, cells_at, element_at, fork_of, history_of, nat_tests, option_map_or, parent_of, reach, true}
+use Rattle.schedule.proofs.Names.{ℕ, ⊤, ◌==◌, ◌∙◌, ◌∷◌, ◌≡◌, ◌≤◌}
 use Rattle.schedule.specs.Alike.{LayAlike, LayAlikeWithin}
-use Rattle.schedule.specs.Plan.{Plan}
-use Rattle.schedule.specs.Branches.{element_at, fork_of, parent_of, reach}
-use Rattle.schedule.specs.Ids.{branch_id}
-use Rattle.schedule.specs.Scratch.{cells_at, history_of, arrival}
-use Rattle.schedule.specs.Sound.{IsSound}
 use Rattle.schedule.proofs.Shared.Reach.{reach-greatest}
 use Rattle.schedule.proofs.Shared.Branches.{element_at-is, fork_of-zero, parents_before, forks_rise}
 use Rattle.schedule.proofs.Shared.Arrivals.{arrive-alike}

@@ -1,18 +1,9 @@
 -- What arrives at the generations of branches, by the branch before and the generation before.
-use Rattle.std.proofs.Common.{◌≡◌, ℕ, zero, suc, ◌+◌, ◌-◌, ◌<◌, ◌≤◌, ◌==◌, nat_lt, nat_le, Bool, false, ◌&&◌, List, [], refl, sym, ap, ◌∙◌, subst, arith}
-use Rattle.std.proofs.lemmas.Bool.{cond-false}
-use Rattle.std.proofs.lemmas.Bool.Decides.{nat_tests}
-use Rattle.worlds.specs.declared.cell.CellSet.{CellSet}
-use Rattle.worlds.specs.World.{World}
-use Rattle.worlds.specs.Lay.{lay}
-use Rattle.worlds.specs.Step.{step}
+use Rattle.schedule.proofs.Names.{Bool, Branch, CellSet, History, List, World, [], ap, arith, arrive-gap, arrive-zero, branch_id, cond-false, element_at, false, fork_of, lay, nat_le, nat_lt, nat_tests, parent_of, refl, step, subst, suc}
+use Rattle.schedule.proofs.Names.{sym, zero, ℕ, ◌&&◌, ◌+◌, ◌-◌, ◌<◌, ◌==◌, ◌∙◌, ◌≡◌, ◌≤◌}
 use Rattle.worlds.specs.Iterate.{iterate}
 use Rattle.worlds.specs.Arrival as line
-use Rattle.worlds.specs.Arrival.{arrive-zero, arrive-one_more, arrive-past, arrive-gap}
-use Rattle.schedule.specs.declared.branch.Branch.{Branch}
-use Rattle.schedule.specs.Ids.{branch_id}
-use Rattle.schedule.specs.Branches.{element_at, fork_of, parent_of}
-use Rattle.schedule.specs.History.{History, arrive, is_felt}
+use Rattle.schedule.specs.History.{arrive, is_felt}
 
 -- each parent has a lesser id
 abbrev pub ParentsComeBefore : List Branch → Type 0

@@ -1,16 +1,6 @@
 -- What the list of branches says of each by its id.
-use Rattle.std.proofs.Common.{◌≡◌, ℕ, ◌<◌, ◌≤◌, ◌^◌, ◌==◌, true, false, not, List, [], ◌∷◌, ◌++◌, filter, refl, ap, arith, Option, None, Some}
-use Rattle.std.specs.Prelude.{IfSome}
-use Rattle.std.specs.List.{AllByRecursion}
-use Rattle.std.specs.Option.{option_map_or}
-use Rattle.std.proofs.lemmas.Bool.{or_parts}
-use Rattle.std.proofs.lemmas.Bool.Decides.{nat_tests}
-use Rattle.schedule.specs.declared.branch.Branch.{Branch}
-use Rattle.schedule.specs.Ids.{branch_id, has_id}
-use Rattle.schedule.specs.Branches.{element_at, has_branch, fork_of, parent_of, has_interventions, has_bookmarks, has_children}
-use Rattle.schedule.specs.Change.{is_in_use}
-use Rattle.schedule.specs.Plan.{Plan}
-use Rattle.schedule.specs.Sound.{IsPlaced, IsForked}
+use Rattle.schedule.proofs.Names.{AllByRecursion, Branch, IfSome, IsForked, IsPlaced, List, None, Option, Plan, Some, [], ap, arith, branch_id, element_at, false, filter, fork_of, has_bookmarks, has_branch, has_children, has_id}
+use Rattle.schedule.proofs.Names.{has_interventions, is_in_use, nat_tests, not, option_map_or, or_parts, parent_of, refl, true, ℕ, ◌++◌, ◌<◌, ◌==◌, ◌^◌, ◌∷◌, ◌≡◌, ◌≤◌}
 
 -- the element that is found has the id, and what holds of each
 pub element_at-is : {X : Type 0} (id : X → ℕ) (P : X → Type 0) (xs : List X) (n : ℕ) → AllByRecursion P xs

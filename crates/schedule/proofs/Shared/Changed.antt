@@ -1,10 +1,6 @@
 -- A document that an edit changes keeps its limits.
-use Rattle.std.specs.Prelude.{◌≡◌, ◌<◌, ◌≤◌, None, ⊤}
-use Rattle.rule_tree.specs.Rule.{states_of}
-use Rattle.schedule.specs.Asked.{Asked, Insert, Change, RemoveIntervention, SetCells, ReplaceStart, ReplaceRule, AddBookmark, MoveBookmark, RemoveBookmark, AddBranch, RemoveBranch}
-use Rattle.schedule.specs.Change.{changed, refusal}
-use Rattle.schedule.specs.Plan.{Plan}
-use Rattle.schedule.specs.Sound.{IsSound}
+use Rattle.schedule.proofs.Names.{AddBookmark, AddBranch, Asked, Change, Insert, IsSound, MoveBookmark, None, Plan, RemoveBookmark, RemoveBranch, RemoveIntervention, ReplaceRule, ReplaceStart, SetCells, changed, refusal, states_of, ⊤, ◌<◌}
+use Rattle.schedule.proofs.Names.{◌≡◌, ◌≤◌}
 use Rattle.schedule.proofs.Sounds.{IsSound-cells, IsSound-start, IsSound-rule, IsSound-branch, IsSound-removed_branch}
 use Rattle.schedule.proofs.SoundLists.{IsSound-intervention, IsSound-changed_intervention, IsSound-removed_intervention, IsSound-bookmark, IsSound-moved_bookmark, IsSound-removed_bookmark}
 

@@ -1,8 +1,5 @@
 -- What is felt, going back from a branch to its parent.
-use Rattle.std.proofs.Common.{◌≡◌, ℕ, zero, suc, ◌+◌, ◌≤◌, ◌==◌, nat_lt, false, ◌&&◌, List, refl, arith}
-use Rattle.std.proofs.lemmas.Bool.Decides.{nat_tests}
-use Rattle.schedule.specs.declared.branch.Branch.{Branch}
-use Rattle.schedule.specs.Branches.{fork_of, parent_of}
+use Rattle.schedule.proofs.Names.{Branch, List, arith, false, fork_of, nat_lt, nat_tests, parent_of, refl, suc, zero, ℕ, ◌&&◌, ◌+◌, ◌==◌, ◌≡◌, ◌≤◌}
 use Rattle.schedule.specs.History.{is_felt}
 use Rattle.schedule.proofs.Shared.Arrivals.{ParentsComeBefore}
 

@@ -1,15 +1,7 @@
 -- After an edit that isn't refused the cells that interventions set can be laid, and the marks
 -- aren't too many.
-use Rattle.std.proofs.Common.{◌≡◌, ℕ, ◌≤◌, None}
-use Rattle.std.specs.Prelude.{All}
-use Rattle.worlds.specs.Range.{CanBeLaid}
-use Rattle.rule_tree.specs.Rule.{states_of}
-use Rattle.schedule.specs.Asked.{Asked, Insert, Change, RemoveIntervention, AddBookmark, MoveBookmark, RemoveBookmark, AddBranch, RemoveBranch}
-use Rattle.schedule.specs.Change.{changed, first_refusal, refusals}
-use Rattle.schedule.specs.Repeats.{repeat_marks}
-use Rattle.schedule.specs.Plan.{Plan}
-use Rattle.schedule.specs.Scratch.{cells_at}
-use Rattle.schedule.specs.Sound.{IsSound}
+use Rattle.schedule.proofs.Names.{AddBookmark, AddBranch, All, Asked, CanBeLaid, Change, Insert, IsSound, MoveBookmark, None, Plan, RemoveBookmark, RemoveBranch, RemoveIntervention, cells_at, changed, first_refusal, refusals, repeat_marks}
+use Rattle.schedule.proofs.Names.{states_of, ℕ, ◌≡◌, ◌≤◌}
 use Rattle.schedule.proofs.Shared.History.{AreNamed-at, SetBelow-at, CanBeLaid-named}
 use Rattle.schedule.proofs.Sounds.{IsSound-branch, IsSound-removed_branch}
 use Rattle.schedule.proofs.SoundLists.{IsSound-intervention, IsSound-changed_intervention, IsSound-removed_intervention, IsSound-bookmark, IsSound-moved_bookmark, IsSound-removed_bookmark}

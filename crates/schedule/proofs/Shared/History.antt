@@ -1,25 +1,11 @@
 -- What the limits of documents say of the worlds on the way from the start.
-use Rattle.std.proofs.Common.{◌≡◌, ℕ, zero, suc, ◌+◌, ◌-◌, ◌≤◌, ◌^◌, ◌==◌, Bool, true, false, List, [], ◌∷◌, subst, arith}
-use Rattle.std.specs.Prelude.{if◌then◌else◌}
-use Rattle.std.specs.Prelude.{All}
-use Rattle.std.specs.List.{AllByRecursion}
-use Rattle.std.proofs.lemmas.List.Elements.{All-from_recursion}
-use Rattle.worlds.specs.Lay.{lay}
-use Rattle.worlds.specs.Range.{HasMargin, AllBelow, CanBeLaid}
+use Rattle.schedule.proofs.Names.{All, All-from_recursion, AllBelow, AllBelow-arrive, AllBelow-lay, AllByRecursion, AreInside-less, AreNamed, Bool, CanBeLaid, CellSet, HasMargin, HasMargin-arrive, HasMargin-lay, Intervention, IsAllowed}
+use Rattle.schedule.proofs.Names.{IsInside-less, IsSound, List, Plan, SetBelow, World, [], acts_at, after, all_append, arith, arrival, cells_at, false, fork_of, history_of, if◌then◌else◌, lay, next_of, own_cells, parent_of, states_of}
+use Rattle.schedule.proofs.Names.{subst, suc, true, zero, ℕ, ◌+◌, ◌-◌, ◌==◌, ◌^◌, ◌∷◌, ◌≡◌, ◌≤◌}
 use Rattle.worlds.specs.Arrival as line
-use Rattle.worlds.specs.World.{World}
-use Rattle.worlds.specs.declared.cell.CellSet.{CellSet}
-use Rattle.worlds.proofs.Shared.Keeps.{HasMargin-arrive, AllBelow-arrive, HasMargin-lay, AllBelow-lay, IsInside-less, AreInside-less}
-use Rattle.rule_tree.specs.Rule.{states_of, next_of}
 use Rattle.rule_tree.specs.RuleLaws.{next_of-quiet, next_of-below}
-use Rattle.schedule.specs.declared.document.Intervention.{Intervention}
-use Rattle.schedule.specs.Plan.{Plan}
-use Rattle.schedule.specs.Branches.{fork_of, parent_of}
 use Rattle.schedule.specs.History.{arrive}
-use Rattle.schedule.specs.Scratch.{acts_at, own_cells, cells_at, history_of, arrival, after}
-use Rattle.schedule.specs.Sound.{AreNamed, SetBelow, IsAllowed, IsSound}
 use Rattle.schedule.proofs.Shared.Branches.{forks_near, forks_rise}
-use Rattle.basics.proofs.Shared.Lists.{all_append}
 
 own : (P : CellSet → Type 0) (b : Bool) (cs : List CellSet) → AllByRecursion P cs
     → AllByRecursion P (if b then cs else [])

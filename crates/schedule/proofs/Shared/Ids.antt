@@ -1,16 +1,8 @@
 -- What changes of lists keep of their elements and ids.
-use Rattle.std.proofs.Common.{◌≡◌, ℕ, zero, suc, ◌+◌, ◌<◌, ◌≤◌, ◌==◌, Bool, true, false, cond, List, [], ◌∷◌, ◌++◌, length, map, filter, get_or, None, Some, refl, sym, subst, arith}
-use Rattle.std.specs.Prelude.{if◌then◌else◌, position, find}
-use Rattle.std.specs.Option.{option_map}
-use Rattle.std.specs.List.{AllByRecursion, list_any}
+use Rattle.schedule.proofs.Names.{All-from_recursion, All-get_or, AllByRecursion, Bool, IdsRise, List, None, Some, [], all_append, all_so, arith, changed_at, cond, count_by-le-length, false, filter, find, get_or, if◌then◌else◌, length}
+use Rattle.schedule.proofs.Names.{length-filter, list_any, map, nat_tests, option_map, or_parts, position, refl, subst, suc, sym, true, zero, ℕ, ◌++◌, ◌+◌, ◌<◌, ◌==◌, ◌∷◌, ◌≡◌, ◌≤◌}
 use Rattle.std.proofs.Math.ListN.{set}
-use Rattle.std.proofs.lemmas.Bool.{or_parts}
-use Rattle.std.proofs.lemmas.Bool.Decides.{nat_tests}
-use Rattle.std.proofs.lemmas.List.Elements.{All-get_or, All-from_recursion}
 use Rattle.std.proofs.lemmas.List.Quantifiers.{position-Some}
-use Rattle.std.proofs.lemmas.List.Sums.{length-filter, count_by-le-length}
-use Rattle.schedule.specs.Ids.{IdsRise, changed_at}
-use Rattle.basics.proofs.Shared.Lists.{all_append, all_so}
 
 -- an element with a greater id at the end
 pub rise_push : {X : Type 0} (id : X → ℕ) (xs : List X) (x : X) (last : ℕ) → IdsRise id xs

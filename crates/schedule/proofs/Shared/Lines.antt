@@ -1,34 +1,14 @@
 -- The arrivals of documents along the lines of their branches.
-use Rattle.std.proofs.Common.{◌≡◌, ℕ, suc, ◌+◌, ◌<◌, ◌≤◌, ◌==◌, true, false, ◌&&◌, List, [], ◌∷◌, ◌++◌, map, refl, sym, ap, ap₂, ◌∙◌, subst, arith, None, Some}
-use Rattle.std.specs.Prelude.{if◌then◌else◌, IfSome, flat_map}
-use Rattle.std.specs.List.{AllByRecursion}
-use Rattle.std.specs.Option.{option_map_or}
-use Rattle.std.proofs.lemmas.Bool.Decides.{nat_tests}
-use Rattle.worlds.specs.Lay.{lay}
-use Rattle.worlds.specs.Step.{step}
+use Rattle.schedule.proofs.Names.{Acts, AllByRecursion, ArePlaced, AreSinglesOf, Branch, CellSet, IfSome, Intervention, IsAllowed, IsForked, IsOneLine, IsPlaced, IsSound, IsTimely, List, None, Once, Plan, SameElsewhere, Some, [], acts_on}
+use Rattle.schedule.proofs.Names.{after, after_alone, ap, append_assoc, ap₂, arith, arrival, arrival_alone, arrive, arrive-past, arrive-zero, branch_id, cells_at, element_at, false, first_of, flat_map, fork_of, generations_of, has_branch}
+use Rattle.schedule.proofs.Names.{history_of, if◌then◌else◌, is_felt, is_in_use, lay, map, name_of, nat_tests, next_branch, next_of, option_map_or, own_cells, parent_of, refl, setting, states_of, step, subst, suc, sym, told, true}
+use Rattle.schedule.proofs.Names.{with_branch, without_branch, ℕ, ◌&&◌, ◌++◌, ◌+◌, ◌<◌, ◌==◌, ◌∙◌, ◌∷◌, ◌≡◌, ◌≤◌}
 use Rattle.worlds.specs.Iterate.{iterate}
 use Rattle.worlds.specs.Arrival as line
-use Rattle.worlds.specs.Arrival.{arrive-zero, arrive-past}
-use Rattle.rule_tree.specs.Rule.{name_of, states_of, next_of}
 use Rattle.bookmarks.specs.Text.{text_of}
-use Rattle.schedule.specs.declared.branch.Branch.{Branch}
-use Rattle.schedule.specs.declared.document.Intervention.{Intervention}
-use Rattle.schedule.specs.declared.acts.Acts.{Acts}
-use Rattle.schedule.specs.declared.acts.Acts.TheVariants.{Once}
-use Rattle.schedule.specs.Acts.{acts_on, first_of, generations_of, IsTimely}
 use Rattle.schedule.proofs.Shared.Acts.{generations-at}
-use Rattle.std.proofs.lemmas.List.{append_assoc}
 use Rattle.std.proofs.lemmas.List.Concat.{flat_map-cons}
 use Rattle.std.proofs.lemmas.Grind.{flat_map-append}
-use Rattle.worlds.specs.declared.cell.CellSet.{CellSet}
-use Rattle.schedule.specs.Ids.{branch_id}
-use Rattle.schedule.specs.Plan.{Plan}
-use Rattle.schedule.specs.Branches.{element_at, has_branch, fork_of, parent_of}
-use Rattle.schedule.specs.History.{is_felt, arrive}
-use Rattle.schedule.specs.Scratch.{own_cells, cells_at, history_of, arrival, after}
-use Rattle.schedule.specs.Sound.{ArePlaced, IsPlaced, IsForked, IsAllowed, IsSound}
-use Rattle.schedule.specs.Change.{is_in_use, next_branch, with_branch, without_branch}
-use Rattle.schedule.specs.Laws.{setting, AreSinglesOf, told, arrival_alone, after_alone, IsOneLine, SameElsewhere}
 use Rattle.schedule.proofs.Shared.Branches.{fork_of-zero, forks_rise, unused, parents_before, parents_there, element_at-is, element_at-added, element_at-without}
 use Rattle.schedule.proofs.Shared.Arrivals.{ParentsComeBefore, arrive-root, arrive-fork, arrive-undisturbed, arrive-alike, arrive-elsewhere, felt-above, felt-earlier, unfelt_cells}
 use Rattle.schedule.proofs.Shared.Felt.{felt-back}

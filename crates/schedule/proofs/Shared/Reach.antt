@@ -1,15 +1,6 @@
 -- The greatest of a number and of what some elements of a list say.
-use Rattle.std.proofs.Common.{◌≡◌, ◌⊎◌, ℕ, ◌≤◌, ◌==◌, Bool, true, ◌&&◌, List, [], ◌∷◌, refl, sym, ◌∙◌, subst, inl, inr, arith}
-use Rattle.std.specs.Prelude.{if◌then◌else◌, fold, max}
-use Rattle.std.specs.List.{AllByRecursion, list_any}
-use Rattle.std.proofs.lemmas.Bool.Decides.{nat_tests}
-use Rattle.std.proofs.lemmas.Bool.{or_right}
-use Rattle.schedule.specs.declared.branch.Branch.{Branch}
-use Rattle.schedule.specs.declared.document.Bookmark.{Bookmark}
-use Rattle.schedule.specs.Plan.{Plan}
-use Rattle.schedule.specs.Branches.{fork_of, farthest_bookmark, farthest_fork, reach}
-use Rattle.schedule.specs.Laws.{IsMark, IsReach}
-use Rattle.basics.proofs.Shared.Lists.{all_so}
+use Rattle.schedule.proofs.Names.{AllByRecursion, Bookmark, Bool, Branch, IsMark, IsReach, List, Plan, [], all_so, arith, farthest_bookmark, farthest_fork, fold, fork_of, if◌then◌else◌, inl, inr, list_any, max, nat_tests, or_right, reach}
+use Rattle.schedule.proofs.Names.{refl, subst, sym, true, ℕ, ◌&&◌, ◌==◌, ◌∙◌, ◌∷◌, ◌≡◌, ◌≤◌, ◌⊎◌}
 
 -- the greatest so far, after one more element
 abbrev pub more : {X : Type 0} → (X → Bool) → (X → ℕ) → ℕ → X → ℕ

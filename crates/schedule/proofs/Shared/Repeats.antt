@@ -1,28 +1,10 @@
 -- How many marks repeating interventions make, where interventions, bookmarks or branches change.
-use Rattle.std.proofs.Common.{◌≡◌, ℕ, zero, suc, ◌+◌, ◌-◌, ◌/◌, ◌≤◌, ◌^◌, ◌==◌, Bool, true, false, not, nat_lt, List, [], ◌∷◌, ◌++◌, filter, refl, sym, ap, ◌∙◌, subst, arith, Option}
-use Rattle.std.specs.Prelude.{if◌then◌else◌, fold, max, min}
-use Rattle.std.specs.Option.{option_map_or}
-use Rattle.std.specs.List.{AllByRecursion, sum_by}
-use Rattle.std.proofs.Math.Nat.{div-mul-le_self, div-zero}
+use Rattle.schedule.proofs.Names.{Acts, AllByRecursion, Bookmark, Bool, Branch, CellSet, Every, Intervention, IsPlaced, IsSound, List, Once, Option, Plan, View, [], acting, all_so, ap, arith, bookmark_id, branch_id, capped_changed}
+use Rattle.schedule.proofs.Names.{capped_marks, changed_bookmarks, count_between, div-mul-le_self, div-zero, false, farthest_bookmark, farthest_fork, filter, first_of, fold, fold-append, fold-map, fork_of, has_branch, if◌then◌else◌}
+use Rattle.schedule.proofs.Names.{marks_to, marks_within, max, min, nat_lt, nat_tests, next_bookmark, next_branch, next_intervention, not, option_map_or, reach, reach_with, refl, repeat_marks, repeats, subst, suc, sum_by, sum_by-cons}
+use Rattle.schedule.proofs.Names.{sum_by_push, sym, true, with_branch, with_changed_intervention, with_intervention, with_moved_bookmark, without, zero, ℕ, ◌++◌, ◌+◌, ◌-◌, ◌/◌, ◌==◌, ◌^◌, ◌∙◌, ◌∷◌, ◌≡◌, ◌≤◌}
 use Rattle.std.proofs.lemmas.Nat.{le-div}
-use Rattle.std.proofs.lemmas.Bool.Decides.{nat_tests}
-use Rattle.std.proofs.lemmas.List.Folds.{fold-map}
-use Rattle.std.proofs.lemmas.List.Sums.{sum_by-cons, sum_by_push, fold-append}
-use Rattle.schedule.specs.declared.acts.Acts.{Acts}
-use Rattle.schedule.specs.declared.acts.Acts.TheVariants.{Once, Every}
-use Rattle.schedule.specs.declared.branch.Branch.{Branch}
-use Rattle.schedule.specs.declared.document.Bookmark.{Bookmark}
-use Rattle.schedule.specs.declared.document.Intervention.{Intervention}
-use Rattle.bookmarks.specs.declared.view.View.{View}
-use Rattle.worlds.specs.declared.cell.CellSet.{CellSet}
-use Rattle.schedule.specs.Acts.{repeats, first_of, marks_to, count_between}
-use Rattle.schedule.specs.Branches.{has_branch, fork_of, farthest_bookmark, farthest_fork, reach}
-use Rattle.schedule.specs.Change.{with_intervention, next_intervention, with_changed_intervention, changed_bookmarks, with_branch, with_moved_bookmark, next_bookmark, next_branch, acting}
-use Rattle.schedule.specs.Ids.{branch_id, bookmark_id, without}
-use Rattle.schedule.specs.Plan.{Plan}
-use Rattle.schedule.specs.Repeats.{marks_within, repeat_marks, has_too_many_marks, capped_marks, capped_changed, reach_with}
-use Rattle.schedule.specs.Sound.{IsPlaced, IsSound}
-use Rattle.basics.proofs.Shared.Lists.{all_so}
+use Rattle.schedule.specs.Repeats.{has_too_many_marks}
 use Rattle.schedule.proofs.Each.{all_are}
 use Rattle.schedule.proofs.Shared.Branches.{element_at-added, element_at-without}
 use Rattle.schedule.proofs.Shared.Reach.{more, more-from}

@@ -1,8 +1,5 @@
 -- Bytes that are taken of what is ahead.
-use Rattle.std.proofs.Common.{◌≡◌, ℕ, ◌+◌, List, [], ◌∷◌, ◌++◌, arith, length-append, ap}
-use Rattle.std.specs.Io.KnownBytes.{Keeps, Consumes}
-use Rattle.std.proofs.KnownBytes.{Consumes-trans, Consumes-nil, Consumes-kept}
-use Rattle.script_lines.specs.Ahead.{Ahead, LineReading, TakesBytes}
+use Rattle.script_lines.proofs.Names.{Ahead, Consumes, Consumes-kept, Consumes-nil, Consumes-trans, Keeps, LineReading, List, TakesBytes, [], ap, arith, length-append, ℕ, ◌++◌, ◌+◌, ◌∷◌, ◌≡◌}
 
 pub takes_none : (a : Ahead) → TakesBytes a a []
 takes_none a = record { consumed = Consumes-nil a.bytes; counted = omega arith }

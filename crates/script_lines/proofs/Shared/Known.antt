@@ -1,10 +1,5 @@
 -- What a reader has left, behind a buffer.
-use Rattle.std.proofs.Common.{◌≡◌, ℕ, ◌-◌, ◌^◌, arith, List, [], ◌∙◌, ap, Option, Result, Ok, Err, OnErr}
-use Rattle.std.specs.Prelude.{slice_range}
-use Rattle.std.specs.Io.KnownBytes.{prepend_known}
-use Rattle.std.proofs.KnownBytes.{prepend_known-nil}
-use Rattle.script_lines.specs.Ahead.{Ahead, LineReading, IsDrawn}
-use Rattle.script_lines.specs.Input.{ahead, left, bytes_left, IsDrained}
+use Rattle.script_lines.proofs.Names.{Ahead, Err, IsDrained, IsDrawn, LineReading, List, Ok, OnErr, Option, Result, [], ahead, ap, arith, bytes_left, left, prepend_known, prepend_known-nil, slice_range, ℕ, ◌-◌, ◌^◌, ◌∙◌, ◌≡◌}
 use Rattle.script_lines.specs.declared.input.Input.{Input}
 
 pub on_err : {T E : Type 0} (r : Result T E) (P : Type 0) → P → OnErr r P

@@ -1,18 +1,10 @@
 -- Lines that are taken one after another.
-use Rattle.std.proofs.Common.{◌≡◌, ◌≢◌, ℕ, ◌+◌, ◌^◌, ◌<◌, ◌≤◌, List, [], ◌∷◌, ◌++◌, length, take, Bool, true, false, sym, ◌∙◌, ap, refl, append_assoc, append-nil, subst, Option, Some, None, arith, length-append}
+use Rattle.script_lines.proofs.Names.{Ahead, Bool, Broken, Ended, EndsHere, GrowsText, IsAtEnd, IsText, KeptLine, LineTaken, List, MayFollow, NoEndAmong, NoLineFeed, None, NoneEnds, Option, Says, Some, StopsInLine, TakesBytes, TakesInto}
+use Rattle.script_lines.proofs.Names.{TakesLine, TextTaken, [], ap, append-nil, append_assoc, arith, false, full_line, is_end, last_line, len_of, length, length-append, lines_from, lines_until, next_number, option_map, raw_bytes, raw_of}
+use Rattle.script_lines.proofs.Names.{refl, subst, sym, take, take-append-le, trim, true, ℕ, ◌++◌, ◌+◌, ◌<◌, ◌^◌, ◌∙◌, ◌∷◌, ◌≡◌, ◌≢◌, ◌≤◌}
 use Rattle.std.proofs.Math.Seq.{take-length}
-use Rattle.std.proofs.lemmas.List.{take-append-le}
-use Rattle.std.specs.Option.{option_map}
-use Rattle.std.specs.Io.KnownBytes.{IsAtEnd}
-use Rattle.script_lines.specs.Ahead.{Ahead, TakesBytes}
 use Rattle.script_lines.proofs.Shared.Ahead.{takes_then}
-use Rattle.text_lines.specs.Blanks.{trim}
-use Rattle.text_lines.specs.Lines.{End, Ended, Broken, Line, NoLineFeed, full_line, last_line, lines_from, lines_until}
-use Rattle.script_lines.specs.KeptLine.{TakesLine, raw_of, Says}
-use Rattle.script_lines.specs.Script.{MayFollow, LineTaken, EndsHere, TakesInto, StopsInLine, TextTaken, NoEndAmong, next_number}
-use Rattle.script_lines.specs.ScriptLine.{NoneEnds, raw_bytes, is_end}
-use Rattle.script_lines.specs.Text.{GrowsText, IsText, len_of}
-use Rattle.script_lines.specs.declared.kept_line.KeptLine.{KeptLine}
+use Rattle.text_lines.specs.Lines.{End, Line}
 use Rattle.script_lines.specs.declared.kept_line.Found.{Found}
 use Rattle.script_lines.specs.declared.kept_line.Found.TheVariants as found
 

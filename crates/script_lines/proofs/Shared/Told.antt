@@ -1,6 +1,5 @@
 -- Bytes that are written piece by piece.
-use Rattle.std.proofs.Common.{◌≡◌, ℕ, List, ◌++◌, take, drop, sym, ◌∙◌, ap, append_assoc, take-append-drop, Option, Result, Ok, Err, IsErr, is_err, true, false}
-use Rattle.std.specs.Io.KnownBytes.{Keeps, Appends}
+use Rattle.script_lines.proofs.Names.{Appends, Err, IsErr, Keeps, List, Ok, Option, Result, ap, append_assoc, drop, false, is_err, sym, take, take-append-drop, true, ℕ, ◌++◌, ◌∙◌, ◌≡◌}
 use Rattle.script_lines.specs.Faults.{AppendsFront, Wrote}
 use Rattle.std.proofs.KnownBytes.{Appends-trans as appends_appends, Appends-kept as appends_keeps}
 

@@ -1,13 +1,8 @@
 -- Where a quadtree says nothing, and what it says of the cells of a larger square.
-use Rattle.std.proofs.Common.{◌≡◌, ◌⊎◌, ℕ, zero, suc, ◌+◌, ◌-◌, ◌*◌, ◌^◌, ◌<◌, ◌≤◌, nat_lt, Bool, true, false, cond, Option, None, Some, refl, sym, ap, ap₂, subst, ◌∙◌, inl, inr, arith}
-use Rattle.std.specs.Option.{option_or}
-use Rattle.std.proofs.lemmas.Bool.Decides.{nat_tests}
-use Rattle.std.proofs.lemmas.Nat.{pow-add, pow_pos}
+use Rattle.square_tree.proofs.Names.{Bool, HasLevel, IsAligned, IsLaid, IsPartlyLaid, IsPartlyOver, None, Option, Quadtree, Some, ap, ap₂, arith, at, at_from, cell, cond, false, inl, inr, keep, nat_lt, nat_tests, option_or, over, pow-add}
+use Rattle.square_tree.proofs.Names.{pow_pos, quad, refl, subst, suc, sym, true, zero, ℕ, ◌*◌, ◌+◌, ◌-◌, ◌<◌, ◌^◌, ◌∙◌, ◌≡◌, ◌≤◌, ◌⊎◌}
 use Rattle.std.proofs.Math.Nat.{pow-suc, lt_of_mul-lt-mul_right, mul-le-mul_right, mul-lt-mul_of_pos_right}
-use Rattle.square_tree.specs.Quadtree.{Quadtree, keep, cell, quad, HasLevel, at}
-use Rattle.square_tree.specs.Over.{over, IsPartlyOver}
 use Rattle.square_tree.proofs.Covered.{HasLevel-over}
-use Rattle.square_tree.specs.Laid.{IsAligned, IsLaid, IsPartlyLaid, at_from}
 
 -- a square is twice as wide as its quadrants
 pub double : (l : ℕ) → 0 < l → 2 ^ l ≡ 2 * 2 ^ (l - 1)

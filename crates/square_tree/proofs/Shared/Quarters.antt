@@ -1,12 +1,6 @@
 -- A quadtree that is laid by its quadrants.
-use Rattle.std.proofs.Common.{◌≡◌, ◌⊎◌, ℕ, ◌+◌, ◌-◌, ◌*◌, ◌/◌, ◌^◌, ◌<◌, ◌≤◌, nat_lt, ◌||◌, Bool, true, false, cond, Option, None, refl, sym, ap, ap₂, ◌∙◌, inl, inr, arith}
-use Rattle.std.specs.Option.{option_or}
-use Rattle.std.proofs.lemmas.Bool.Decides.{nat_tests}
-use Rattle.square_tree.specs.Quadtree.{Quadtree, keep, quad, HasLevel, at}
-use Rattle.square_tree.specs.Laid.{IsAligned, IsLaid, IsPartlyLaid, at_from}
-use Rattle.std.proofs.Math.Pow.{pow_mono}
-use Rattle.std.proofs.lemmas.Nat.{pow-add, pow_pos}
-use Rattle.square_tree.specs.Cells.{reach}
+use Rattle.square_tree.proofs.Names.{Bool, HasLevel, IsAligned, IsLaid, IsPartlyLaid, None, Option, Quadtree, ap, ap₂, arith, at, at_from, cond, false, inl, inr, keep, nat_lt, nat_tests, option_or, pow-add, pow_mono, pow_pos, quad, reach}
+use Rattle.square_tree.proofs.Names.{refl, sym, true, ℕ, ◌*◌, ◌+◌, ◌-◌, ◌/◌, ◌<◌, ◌^◌, ◌||◌, ◌∙◌, ◌≡◌, ◌≤◌, ◌⊎◌}
 use Rattle.square_tree.proofs.Shared.Placed.{double, at_from_west, at_from_north, at_from_east, at_from_south, split}
 
 -- which of four quadrants says what the square says, where the others say nothing

@@ -1,19 +1,8 @@
 -- Lines that say a table say it under other numbers too.
-use Rattle.std.proofs.lemmas.Bool.Decides.{nat_tests}
-use Rattle.std.proofs.Common.{◌≡◌, ℕ, Bool, if◌then◌else◌, List, [], ◌∷◌, map, Result, Ok, Err, is_some, arith, ap}
-use Rattle.basics.specs.Results.{◌>>=◌}
-use Rattle.rule_file.specs.declared.fault.RuleFault.{RuleFault}
-use Rattle.rule_file.specs.declared.fault.RuleFault.TheVariants.{BadVariable}
-use Rattle.rule_file.specs.RuleFile.{NumberedLine}
-use Rattle.table_lines.specs.declared.descriptors.Descriptor.{Descriptor}
-use Rattle.table_lines.specs.declared.descriptors.Head.{Head}
-use Rattle.table_lines.specs.Descriptors.{Described, describe, descriptor_of, head_from, head_of, undescribed}
-use Rattle.table_lines.specs.LineLaws.{NumbersDoNotMatter}
-use Rattle.table_lines.specs.Table.{Table, headed}
-use Rattle.table_lines.specs.Transitions.{transition_of, transitions_of}
+use Rattle.table_lines.proofs.Names.{BadVariable, Bool, Described, Descriptor, Err, GivesToo, Head, List, NumberedLine, NumbersDoNotMatter, Ok, Result, RuleFault, Table, Variables, [], ap, arith, defines_variable, definition_in, describe}
+use Rattle.table_lines.proofs.Names.{descriptor_of, each, head_from, head_of, headed, if◌then◌else◌, is_some, map, nat_tests, no_variables, ok_or-too, set_of, then_too, transition_of, transitions_of, undescribed, unless-too}
+use Rattle.table_lines.proofs.Names.{variables_after, ℕ, ◌>>=◌, ◌∷◌, ◌≡◌}
 use Rattle.table_lines.proofs.Steps.{step-too}
-use Rattle.rule_file.proofs.Shared.Readings.{GivesToo, ok_or-too, then_too, unless-too}
-use Rattle.table_lines.specs.Variables.{Variables, definition_in, defines_variable, each, no_variables, set_of, variables_after}
 
 each-too : {A B : Type 0} (f g : A → Result B RuleFault) → ((x : A) → GivesToo (f x) (g x)) → (xs : List A) → GivesToo (each f xs) (each g xs)
 each-too f g both [] = λ ys h. h

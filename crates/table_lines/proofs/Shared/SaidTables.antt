@@ -1,41 +1,13 @@
 -- The table that lines say: it has two states or more and 256 at most, and its transitions are of the sets that its variables are.
-use Rattle.std.proofs.Common.{◌≡◌, ◌∙◌, ap, refl, ℕ, ◌+◌, ◌-◌, ◌<◌, ◌≤◌, ◌==◌, ◌||◌, ◌&&◌, Bool, true, false, List, [], ◌∷◌, ◌++◌, length, take, drop, Option, Some, None, Result, Ok, Err, is_some, if◌then◌else◌, position, length-append, append_assoc, arith}
-use Rattle.std.specs.Prelude.{option_and_then}
-use Rattle.std.specs.Option.{ok_or}
-use Rattle.std.specs.List.{All, AllByRecursion, list_all, list_any}
-use Rattle.std.proofs.Math.ListN.{get_or-append}
-use Rattle.std.proofs.Math.Seq.{get_or-append_seam}
-use Rattle.std.proofs.lemmas.Bool.{eq-eqb}
-use Rattle.std.proofs.lemmas.Bool.Decides.{nat_tests}
-use Rattle.std.proofs.lemmas.List.{length-take-le}
-use Rattle.std.proofs.lemmas.List.Elements.{All-from_recursion, All-take, recursion_from_All}
-use Rattle.basics.specs.Results.{◌>>=◌}
-use Rattle.basics.proofs.Shared.Lists.{all_so}
-use Rattle.text_lines.specs.Blanks.{trim}
-use Rattle.rule_file.specs.States.{MayHaveStates}
-use Rattle.rule_file.specs.declared.fault.RuleFault.{RuleFault}
-use Rattle.rule_file.specs.declared.fault.RuleFault.TheVariants.{BadVariable, StateTooHigh}
-use Rattle.rule_file.specs.RuleFile.{NumberedLine}
-use Rattle.rule_file.proofs.Shared.Readings.{same_value, some-ok, then-ok}
-use Rattle.table_lines.specs.declared.descriptors.Head.{Head}
-use Rattle.table_lines.specs.declared.neighborhood.Neighborhood.{Neighborhood}
-use Rattle.table_lines.specs.declared.transition.Entry.{Entry}
-use Rattle.table_lines.specs.declared.transition.Entry.TheVariants.{State, OneOf}
-use Rattle.table_lines.specs.declared.transition.Transition.{Transition}
+use Rattle.table_lines.proofs.Names.{All, All-from_recursion, All-take, AllByRecursion, BadVariable, Bool, Entry, Err, Head, IsEntryOf, IsSet, IsTransitionOf, List, MayHaveStates, Neighborhood, None, NumberedLine, Ok, OneOf, Option, Result}
+use Rattle.table_lines.proofs.Names.{RuleFault, Some, State, StateTooHigh, Table, Transition, Variables, [], admits_below, all_so, ap, append_assoc, are_below, arith, defines_variable, definition_in, descriptor_of, drop, each, entry_below}
+use Rattle.table_lines.proofs.Names.{entry_of, eq-eqb, false, fields, get_or-append, get_or-append_seam, has, has-rising, head_from, headed, if◌then◌else◌, is_free, is_full, is_some, is_variable_name, length, length-append, length-take-le}
+use Rattle.table_lines.proofs.Names.{list_all, list_any, member_states, name_of_symmetry, nat_tests, no_variables, ok_or, option_and_then, parts, places_of, position, recursion_from_All, refl, rising, rising-agree, same_value, set_of}
+use Rattle.table_lines.proofs.Names.{some-ok, states_or_fault, symmetry_named, take, then-ok, transition_from, transition_of, transitions_of, trim, true, unbraced, undescribed, union, with_definition, ℕ, ◌&&◌, ◌++◌, ◌+◌, ◌-◌, ◌<◌, ◌==◌}
+use Rattle.table_lines.proofs.Names.{◌>>=◌, ◌||◌, ◌∙◌, ◌∷◌, ◌≡◌, ◌≤◌}
 use Rattle.table_lines.specs.declared.transition.Variable.{Variable}
-use Rattle.table_lines.specs.Below.{admits_below, entry_below}
-use Rattle.table_lines.specs.Descriptors.{descriptor_of, head_from, undescribed}
-use Rattle.table_lines.specs.Fields.{fields, parts}
 use Rattle.table_lines.specs.Lines.{lines_of}
-use Rattle.table_lines.specs.Neighborhood.{places_of}
 use Rattle.table_lines.specs.Read.{IsRead}
-use Rattle.table_lines.specs.States.{has, rising}
-use Rattle.table_lines.specs.StateWords.{has-rising, rising-agree}
-use Rattle.table_lines.specs.Symmetry.{name_of_symmetry, symmetry_named}
-use Rattle.table_lines.specs.Table.{Table, headed}
-use Rattle.table_lines.specs.Transitions.{entry_of, is_free, is_full, transition_from, transition_of, transitions_of}
-use Rattle.table_lines.specs.Variables.{Variables, are_below, defines_variable, definition_in, each, is_variable_name, member_states, no_variables, set_of, states_or_fault, unbraced, union, with_definition}
-use Rattle.table_lines.specs.WrittenTable.{IsEntryOf, IsSet, IsTransitionOf}
 use Rattle.table_lines.proofs.SaidHeads.{head_from-is}
 use Rattle.table_lines.proofs.Splits.{length-parts}
 use Rattle.table_lines.proofs.Unions.{union-below}

@@ -1,11 +1,6 @@
 -- The bits of a set's words.
-use Rattle.std.proofs.Common.{◌≡◌, ℕ, zero, suc, ◌+◌, ◌*◌, ◌/◌, ◌<◌, Bool, cond, List, map, arith}
-use Rattle.std.specs.Prelude.{◌==◌}
-use Rattle.std.specs.Int.{bit_at}
-use Rattle.std.specs.List.{range_with_len}
-use Rattle.std.proofs.lemmas.Bool.Decides.{nat_tests}
-use Rattle.std.proofs.lemmas.Nat.Bits.{bit_at-suc, bit_at_lowest}
-use Rattle.table_lines.specs.States.{has, number_of_bits, word_of}
+use Rattle.table_lines.proofs.Names.{Bool, List, arith, bit_at, bit_at-suc, bit_at_lowest, cond, has, map, nat_tests, range_with_len, suc, zero, ℕ, ◌*◌, ◌+◌, ◌/◌, ◌<◌, ◌==◌, ◌≡◌}
+use Rattle.table_lines.specs.States.{number_of_bits, word_of}
 
 -- the bits of a number are the digits that it was made of
 bit-number : (f : ℕ → Bool) (a n i : ℕ) → i < n → (bit_at (number_of_bits (map f (range_with_len a n))) i == 1) ≡ f (a + i)

@@ -1,20 +1,8 @@
 -- Rule files of tables that are written.
-use Rattle.std.proofs.Common.{refl, ℕ, ◌+◌, ◌≤◌, ◌^◌, List, [], ◌∷◌, ◌++◌, length, map, decimal, arith}
-use Rattle.std.specs.Prelude.{codes}
-use Rattle.std.specs.List.{AllByRecursion}
-use Rattle.basics.proofs.Shared.Lists.{all_append, all_so}
-use Rattle.text_lines.proofs.Shared.ByteRanges.{IsDigit, IsPrinted, IsVisible, digit-visible, printed-tested, visible-printed, visible-tested}
-use Rattle.text_lines.proofs.Shared.Decimals.{IsWide}
-use Rattle.text_lines.proofs.Shared.PrintedLines.{ends-append, ends-visible, line-between, line-visible}
+use Rattle.table_lines.proofs.Names.{AllByRecursion, Head, IsDigit, IsPlain, IsPlainLine, IsPrinted, IsSet, IsSolid, IsTransitionOf, IsVisible, IsWide, List, Neighborhood, Symmetry, Transition, WrittenIsItsFile, [], all_append, all_so}
+use Rattle.table_lines.proofs.Names.{arith, codes, decimal, definition_line, definition_lines, digit-plain, digit-solid, digit-visible, ends-append, ends-visible, file-written, length, line-between, line-visible, map, name_of_neighborhood}
+use Rattle.table_lines.proofs.Names.{name_of_symmetry, printed-tested, refl, set_text, solid-line, solid-tested, transition_line, variable_name, visible-printed, visible-tested, written_lines, ℕ, ◌++◌, ◌+◌, ◌^◌, ◌∷◌, ◌≤◌}
 use Rattle.rule_file.specs.declared.text.SectionKind.TheVariants as section_kind
-use Rattle.rule_file.proofs.Shared.WrittenFiles.{IsPlain, IsPlainLine, IsSolid, digit-plain, digit-solid, file-written, solid-line, solid-tested}
-use Rattle.table_lines.specs.declared.descriptors.Head.{Head}
-use Rattle.table_lines.specs.declared.neighborhood.Neighborhood.{Neighborhood}
-use Rattle.table_lines.specs.declared.symmetry.Symmetry.{Symmetry}
-use Rattle.table_lines.specs.declared.transition.Transition.{Transition}
-use Rattle.table_lines.specs.LineLaws.{WrittenIsItsFile}
-use Rattle.table_lines.specs.Symmetry.{name_of_symmetry}
-use Rattle.table_lines.specs.WrittenTable.{IsSet, IsTransitionOf, definition_line, definition_lines, name_of_neighborhood, set_text, transition_line, variable_name, written_lines}
 use Rattle.table_lines.proofs.WrittenEntries.{all-map, decimal-each}
 use Rattle.table_lines.proofs.Shared.WrittenTables.{line-each, line-some, listed, set-wide, set_text-each}
 

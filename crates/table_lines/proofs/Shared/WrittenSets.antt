@@ -1,6 +1,5 @@
 -- A table that lines say is one for which lines are written.
-use Rattle.std.proofs.Common.{◌≤◌, ◌^◌, length, arith}
-use Rattle.table_lines.specs.LineLaws.{TablesOfLinesAreWritten}
+use Rattle.table_lines.proofs.Names.{TablesOfLinesAreWritten, arith, length, ◌^◌, ◌≤◌}
 use Rattle.table_lines.proofs.Shared.SaidTables.{lines-said}
 
 pub said-written : TablesOfLinesAreWritten

@@ -1,46 +1,15 @@
 -- Tables that are written read back.
-use Rattle.std.proofs.Common.{◌≡◌, ◌∙◌, sym, ap, ap₂, refl, subst, ℕ, suc, ◌+◌, ◌-◌, ◌<◌, ◌≤◌, ◌^◌, ◌==◌, ◌&&◌, ◌||◌, true, false, List, [], ◌∷◌, ◌++◌, length, map, take, drop, Option, Some, None, Ok, inl, inr, nat_lt, decimal, position, arith, append-nil, append_assoc, length-append}
-use Rattle.std.specs.Prelude.{codes, nat_eq, option_and_then}
-use Rattle.std.specs.List.{AllByRecursion, join_with_byte, list_any}
-use Rattle.std.specs.Option.{option_map}
-use Rattle.std.specs.Str.{bytes_eq}
-use lib.Pointwise.{bytes_decides}
-use Rattle.std.proofs.Math.ListN.{get_or-append}
-use Rattle.std.proofs.Math.Seq.{drop-append_seam, drop-append-add, get_or-append_seam, take-append_seam}
-use Rattle.std.proofs.lemmas.Bool.{eq-eqb, eqb-true, cases_eq}
-use Rattle.std.proofs.lemmas.Bool.Decides.{nat_tests}
-use Rattle.std.proofs.lemmas.List.{length-map}
-use Rattle.std.proofs.Math.Bool.{and-true, or-false}
-use Rattle.basics.proofs.Shared.Lists.{all_append}
-use Rattle.text_lines.specs.Blanks.{trim}
+use Rattle.table_lines.proofs.Names.{AllByRecursion, Described, Descriptor, Entry, Head, IsDigit, IsEntryOf, IsSet, IsTransitionOf, IsVisible, IsWide, List, Neighborhood, None, NumberedLine, Ok, Option, Some, State, Symmetry, Transition}
+use Rattle.table_lines.proofs.Names.{Variables, WrittenTablesAreRead, [], all_append, all_below, all_tested, and-true, ap, append-nil, append_assoc, ap₂, are_below, arith, bytes_decides, bytes_eq, cases_eq, codes, decimal, decimal-bytes}
+use Rattle.table_lines.proofs.Names.{defines_variable, definition_in, definition_line, definition_lines, descriptor_named, descriptor_of, differs, digit-visible, drop, drop-append-add, drop-append_seam, each, entry_text, eq-eqb, eqb-true}
+use Rattle.table_lines.proofs.Names.{false, fields, get_or-append, get_or-append_seam, has, head_from, head_of, inl, inr, is_variable_byte, is_variable_name, join_with_byte, least_states, length, length-append, length-map, line-visible}
+use Rattle.table_lines.proofs.Names.{list_any, map, most_states, name_of_neighborhood, name_of_symmetry, nat_eq, nat_lt, nat_tests, neighborhood_named, no_variables, number_of-decimal, numbered_from, option_and_then, option_map, or-false}
+use Rattle.table_lines.proofs.Names.{parts, places_of, position, position-at, refl, rising, rising-agree, set_text, states_in, states_or_fault, subst, suc, sym, symmetry_named, take, take-append_seam, transition_line, transition_of}
+use Rattle.table_lines.proofs.Names.{transitions_of, trim, trim-blank, true, unbraced, undescribed, union, variable_name, variables_after, visible-tested, with_definition, within-read, ℕ, ◌&&◌, ◌++◌, ◌+◌, ◌-◌, ◌<◌, ◌==◌, ◌^◌, ◌||◌, ◌∙◌}
+use Rattle.table_lines.proofs.Names.{◌∷◌, ◌≡◌, ◌≤◌}
 use Rattle.text_lines.specs.Numbers.{number_of}
-use Rattle.text_lines.proofs.Shared.ByteRanges.{IsDigit, IsVisible, all_tested, differs, digit-visible, visible-tested}
-use Rattle.text_lines.proofs.Shared.Decimals.{IsWide, decimal-bytes, number_of-decimal}
 use Rattle.text_lines.proofs.Shared.NamedValues.{HasNoSign, named_value-decimal, named_value-none}
-use Rattle.text_lines.proofs.Shared.Pieces.{position-at}
-use Rattle.text_lines.proofs.Shared.PrintedLines.{line-visible, trim-blank}
-use Rattle.rule_file.proofs.Shared.WrittenFiles.{within-read}
-use Rattle.rule_file.specs.States.{least_states, most_states, states_in}
-use Rattle.rule_file.specs.RuleFile.{NumberedLine, numbered_from}
-use Rattle.table_lines.specs.declared.descriptors.Descriptor.{Descriptor}
 use Rattle.table_lines.specs.declared.descriptors.Descriptor.TheVariants as descriptor
-use Rattle.table_lines.specs.declared.descriptors.Head.{Head}
-use Rattle.table_lines.specs.declared.neighborhood.Neighborhood.{Neighborhood}
-use Rattle.table_lines.specs.declared.symmetry.Symmetry.{Symmetry}
-use Rattle.table_lines.specs.declared.transition.Entry.{Entry}
-use Rattle.table_lines.specs.declared.transition.Entry.TheVariants.{State}
-use Rattle.table_lines.specs.declared.transition.Transition.{Transition}
-use Rattle.table_lines.specs.Below.{all_below}
-use Rattle.table_lines.specs.Descriptors.{Described, descriptor_named, descriptor_of, head_from, head_of, undescribed}
-use Rattle.table_lines.specs.Fields.{fields, parts}
-use Rattle.table_lines.specs.LineLaws.{WrittenTablesAreRead}
-use Rattle.table_lines.specs.Neighborhood.{neighborhood_named, places_of}
-use Rattle.table_lines.specs.States.{has, rising}
-use Rattle.table_lines.specs.StateWords.{rising-agree}
-use Rattle.table_lines.specs.Symmetry.{name_of_symmetry, symmetry_named}
-use Rattle.table_lines.specs.Transitions.{transition_of, transitions_of}
-use Rattle.table_lines.specs.Variables.{Variables, are_below, defines_variable, definition_in, each, is_variable_byte, is_variable_name, no_variables, states_or_fault, unbraced, union, variables_after, with_definition}
-use Rattle.table_lines.specs.WrittenTable.{IsEntryOf, IsSet, IsTransitionOf, definition_line, definition_lines, entry_text, name_of_neighborhood, set_text, transition_line, variable_name}
 use Rattle.table_lines.proofs.Shared.SaidTables.{all-tested}
 use Rattle.table_lines.proofs.WrittenEntries.{AreNamed, IsField, all-map, decimal-each, decimal-field, defines_none, digit-apart, entries-read, entry-each, entry-field, fields-joined, joined-each, joined-some, parts-joined}
 

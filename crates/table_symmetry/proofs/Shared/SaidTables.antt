@@ -1,25 +1,11 @@
 -- The table that lines mean is sound.
-use Rattle.std.proofs.Common.{◌≡◌, ℕ, ◌<◌, ◌==◌, ◌&&◌, Bool, true, false, not, List, [], ◌∷◌, ◌++◌, Ok, Err, if◌then◌else◌, nat_lt, length, refl, subst, arith}
-use Rattle.std.specs.List.{list_all}
-use Rattle.std.proofs.lemmas.Bool.{and_from, and_parts}
-use Rattle.std.proofs.lemmas.Bool.Decides.{nat_tests}
-use Rattle.std.proofs.lemmas.List.Folds.{list_all-append}
-use Rattle.rule_file.specs.declared.fault.RuleFault.TheVariants.{TooManyTransitions, NotQuiescent}
+use Rattle.table_symmetry.proofs.Names.{Bool, Entry, Err, IsRead, List, NotQuiescent, Ok, Table, TooManyTransitions, Transition, Variable, [], and_from, and_parts, arith, assigned, bound_variables, expanded, false, given, gives_states}
+use Rattle.table_symmetry.proofs.Names.{if◌then◌else◌, is_quiescent, is_sound, length, lines_of, list_all, list_all-append, nat_lt, nat_tests, not, refl, subst, table_of, then-ok, transition_limit, true, valued, within_limits, ℕ, ◌&&◌}
+use Rattle.table_symmetry.proofs.Names.{◌++◌, ◌<◌, ◌==◌, ◌∷◌, ◌≡◌}
 use Rattle.rule_file.specs.RuleFile.{NumberedLine}
-use Rattle.table_lines.specs.declared.transition.Variable.{Variable}
-use Rattle.table_lines.specs.declared.transition.Entry.{Entry}
 use Rattle.table_lines.specs.declared.transition.Entry.TheVariants.{State, OneOf}
-use Rattle.table_lines.specs.declared.transition.Transition.{Transition}
 use Rattle.table_lines.specs.Below.{all_below, entry_below, admits_below}
-use Rattle.table_lines.specs.Lines.{lines_of}
-use Rattle.table_lines.specs.Read.{IsRead}
-use Rattle.rule_file.proofs.Shared.Readings.{then-ok}
 use Rattle.table_lines.proofs.Shared.SaidTables.{lines-read}
-use Rattle.table_symmetry.specs.Expanded.{expanded, transition_limit}
-use Rattle.table_symmetry.specs.NextState.{assigned, bound_variables, gives_states, given, is_quiescent, valued}
-use Rattle.table_symmetry.specs.Rule.{is_sound}
-use Rattle.table_symmetry.specs.Table.{Table}
-use Rattle.table_symmetry.specs.TableLines.{table_of, within_limits}
 use Rattle.table_symmetry.proofs.Arrangements.{list_all-filter, list_all-flat_map}
 
 -- the states of bound variables are below n, where those of all entries are

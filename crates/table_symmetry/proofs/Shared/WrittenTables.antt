@@ -1,16 +1,10 @@
 -- Tables within the limits that are written.
-use Rattle.std.proofs.Common.{◌≡◌, ◌∙◌, ap, subst, Ok, nat_lt, length}
+use Rattle.table_symmetry.proofs.Names.{Ok, Table, ap, expanded, is_quiescent, length, lines_of, nat_lt, subst, then-ok, transition_limit, within_limits, ◌∙◌, ◌≡◌}
 use Rattle.basics.specs.Results.{◌>>=◌}
-use Rattle.rule_file.proofs.Shared.Readings.{then-ok}
-use Rattle.table_lines.specs.Lines.{lines_of}
 use Rattle.table_lines.specs.WrittenTable.{IsTableOf}
 use Rattle.table_lines.proofs.Shared.WrittenSets.{said-written}
 use Rattle.table_lines.proofs.Shared.WrittenTables.{written-read}
-use Rattle.table_symmetry.specs.Expanded.{expanded, transition_limit}
 use Rattle.table_symmetry.specs.Laws.{TablesOfFilesAreWritten, WrittenMeansTheSame}
-use Rattle.table_symmetry.specs.NextState.{is_quiescent}
-use Rattle.table_symmetry.specs.Table.{Table}
-use Rattle.table_symmetry.specs.TableLines.{within_limits}
 use Rattle.table_symmetry.proofs.Shared.SaidTables.{passed}
 
 pub written-means : WrittenMeansTheSame

@@ -1,12 +1,5 @@
 -- Bytes by their ranges, and tests on them.
-use Rattle.std.proofs.Common.{◌≡◌, ◌≢◌, ap₂, ℕ, ◌≤◌, ◌==◌, nat_le, ◌&&◌, ◌||◌, Bool, true, false, List, arith}
-use Rattle.std.specs.Char.{is_ascii_digit}
-use Rattle.std.specs.List.{AllByRecursion, list_all}
-use Rattle.std.proofs.lemmas.List.Elements.{recursion_from_All}
-use Rattle.std.proofs.lemmas.List.Sums.{AllPass-from_list_all}
-use Rattle.basics.proofs.Shared.Lists.{all_so}
-use Rattle.std.proofs.lemmas.Bool.Decides.{nat_tests}
-use Rattle.text_lines.specs.Blanks.{is_blank}
+use Rattle.text_lines.proofs.Names.{AllByRecursion, AllPass-from_list_all, Bool, List, all_so, ap₂, arith, false, is_ascii_digit, is_blank, list_all, nat_le, nat_tests, recursion_from_All, true, ℕ, ◌&&◌, ◌==◌, ◌||◌, ◌≡◌, ◌≢◌, ◌≤◌}
 
 -- a decimal digit
 abbrev pub IsDigit : ℕ → Type 0

@@ -1,13 +1,10 @@
 -- Numbers in decimal: their bytes, and that they read back.
-use Rattle.std.proofs.Common.{◌≡◌, ◌∙◌, ap, refl, ℕ, ◌+◌, ◌-◌, ◌*◌, ◌<◌, ◌^◌, min, true, List, [], ◌∷◌, length, take, get_or, Some, arith, tests, rules, decimal}
-use Rattle.std.specs.List.{AllByRecursion, list_all}
-use Rattle.std.specs.Char.{is_ascii_digit}
-use Rattle.std.specs.Str.Parse.{AllDigits, digits_value}
+use Rattle.text_lines.proofs.Names.{AllByRecursion, AllDigits, List, Some, [], ap, arith, decimal, digits_value, get_or, is_ascii_digit, length, list_all, min, number_of, refl, rules, take, tests, true, ℕ, ◌*◌, ◌+◌, ◌-◌, ◌<◌, ◌^◌, ◌∙◌, ◌∷◌}
+use Rattle.text_lines.proofs.Names.{◌≡◌}
 use Rattle.std.proofs.lemmas.Str.{digit_value_digit}
 use Rattle.std.proofs.lemmas.Int.Digits.{digits_value_more}
 use Rattle.std.proofs.lemmas.Fmt.{decimal_is_IsNumeral}
 use Rattle.std.proofs.lemmas.Str.Parse.{digit_from_value}
-use Rattle.text_lines.specs.Numbers.{number_of}
 use Rattle.text_lines.proofs.Shared.ByteRanges.{IsDigit, digit-test}
 
 -- digits, at least one

@@ -1,9 +1,6 @@
 -- The first line of a text, by its length.
-use Rattle.std.proofs.Common.{◌≡◌, ◌≢◌, ℕ, ◌+◌, ◌<◌, ◌≤◌, List, [], ◌∷◌, ◌++◌, length, take, drop, ap, refl, arith, add-one, append_assoc, append-nil, map}
-use Rattle.std.proofs.lemmas.Grind.{common_steps}
-use Rattle.text_lines.specs.Blanks.{trim}
-use Rattle.text_lines.specs.Lines.{End, lines_from, full_line, last_line, line_len, says}
-use Rattle.text_lines.specs.Lines.End.{Ended}
+use Rattle.text_lines.proofs.Names.{End, Ended, List, [], add-one, ap, append-nil, append_assoc, arith, common_steps, drop, full_line, last_line, length, line_len, lines_from, map, refl, says, take, trim, ℕ, ◌++◌, ◌+◌, ◌<◌, ◌∷◌, ◌≡◌, ◌≢◌}
+use Rattle.text_lines.proofs.Names.{◌≤◌}
 
 pub line_len-le : (bs : List ℕ) → line_len bs ≤ length bs
 line_len-le [] = omega arith

@@ -1,12 +1,6 @@
 -- Texts by the lines that line feeds end.
-use Rattle.std.proofs.Common.{◌≡◌, ◌≢◌, ℕ, ◌==◌, List, [], ◌∷◌, ◌++◌, false, sym, ◌∙◌, ap, refl, arith, append-nil, append_assoc, map}
-use Rattle.std.specs.List.{AllByRecursion}
-use Rattle.std.proofs.lemmas.Bool.Decides.{nat_tests}
-use Rattle.std.proofs.lemmas.Grind.{common_steps}
-use Rattle.text_lines.specs.Blanks.{IsBlank, trim}
-use Rattle.text_lines.specs.LineEnds.{with_carriage_returns}
-use Rattle.text_lines.specs.Lines.{End, NoLineFeed, full_line, lines_from, says, strip_carriage_return}
-use Rattle.text_lines.specs.Lines.End.{Ended}
+use Rattle.text_lines.proofs.Names.{AllByRecursion, End, Ended, IsBlank, List, NoLineFeed, [], ap, append-nil, append_assoc, arith, common_steps, false, full_line, lines_from, map, nat_tests, refl, says, strip_carriage_return, sym, trim}
+use Rattle.text_lines.proofs.Names.{with_carriage_returns, ℕ, ◌++◌, ◌==◌, ◌∙◌, ◌∷◌, ◌≡◌, ◌≢◌}
 use Rattle.text_lines.proofs.Shared.ByteRanges.{differs}
 use Rattle.text_lines.proofs.Shared.Trims.{trim-between_blanks}
 

@@ -1,10 +1,7 @@
 -- Lines of a name, a sign and a value, by where the sign stands.
-use Rattle.std.proofs.Common.{◌≡◌, ◌∙◌, ap, ap₂, refl, ℕ, ◌+◌, ◌==◌, true, false, List, [], ◌∷◌, ◌++◌, take, drop, Some, None, decimal, arith}
-use Rattle.std.specs.List.{AllByRecursion}
+use Rattle.text_lines.proofs.Names.{AllByRecursion, List, None, Some, [], ap, ap₂, arith, decimal, drop, false, nat_tests, refl, take, trim_end, trim_start, true, ℕ, ◌++◌, ◌+◌, ◌==◌, ◌∙◌, ◌∷◌, ◌≡◌}
 use Rattle.std.specs.Option.{option_map}
 use Rattle.std.proofs.Math.Seq.{drop-append-add, take-append_seam}
-use Rattle.std.proofs.lemmas.Bool.Decides.{nat_tests}
-use Rattle.text_lines.specs.Blanks.{trim_end, trim_start}
 use Rattle.text_lines.specs.NamedValues.{named_value}
 use Rattle.text_lines.proofs.Shared.ByteRanges.{digit-visible, visible-solid}
 use Rattle.text_lines.proofs.Shared.Decimals.{IsNumeral, IsWide, decimal-numeral}

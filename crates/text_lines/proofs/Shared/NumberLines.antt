@@ -1,10 +1,6 @@
 -- Lines of numbers in decimal, and their words.
-use Rattle.std.proofs.Common.{◌≡◌, ap, refl, sym, subst, ℕ, ◌<◌, Bool, true, false, List, [], ◌∷◌, ◌++◌, length, map, filter, All, decimal, arith, append-nil}
-use Rattle.std.specs.List.{AllByRecursion, slice_split}
-use Rattle.std.proofs.lemmas.List.Elements.{All-from_recursion}
-use Rattle.std.proofs.lemmas.List.Splits.{slice_split_at, slice_split_none}
-use Rattle.basics.proofs.Shared.Lists.{all_append, all_so}
-use Rattle.text_lines.specs.Numbers.{is_word, numbers_line}
+use Rattle.text_lines.proofs.Names.{All, All-from_recursion, AllByRecursion, Bool, List, [], all_append, all_so, ap, append-nil, arith, decimal, false, filter, is_word, length, map, numbers_line, refl, slice_split, slice_split_at}
+use Rattle.text_lines.proofs.Names.{slice_split_none, subst, sym, true, ℕ, ◌++◌, ◌<◌, ◌∷◌, ◌≡◌}
 use Rattle.text_lines.proofs.Shared.ByteRanges.{IsDigit, IsPrinted, IsVisible, digit-visible, visible-printed}
 use Rattle.text_lines.proofs.Shared.Decimals.{IsNumeral, IsWide, decimal-bytes, decimal-numeral, decimal-some}
 use Rattle.text_lines.proofs.Shared.PrintedLines.{EndsSolid, IsLine, ends-append, ends-behind, ends-visible, line-between}

@@ -1,9 +1,6 @@
 -- The pieces of a line, which bytes that pass a test part: the first, and those behind it.
-use Rattle.std.proofs.Common.{◌≡◌, ℕ, ◌+◌, ◌<◌, ◌≤◌, Bool, true, false, List, [], ◌∷◌, ◌++◌, length, take, drop, Some, None, position, nat_lt, append-nil, ap, ◌∙◌, length-append, arith, rules, tests}
-use Rattle.std.specs.List.{AllByRecursion, slice_split, position_or_len}
-use Rattle.std.proofs.lemmas.Bool.Decides.{nat_tests}
-use Rattle.std.proofs.lemmas.List.Splits.{slice_split_first, slice_split_none}
-use Rattle.std.proofs.lemmas.List.Sums.{fails_before_first}
+use Rattle.text_lines.proofs.Names.{AllByRecursion, Bool, List, None, Some, [], ap, append-nil, arith, drop, fails_before_first, false, length, length-append, nat_lt, nat_tests, position, position_or_len, rules, slice_split}
+use Rattle.text_lines.proofs.Names.{slice_split_first, slice_split_none, take, tests, true, ℕ, ◌++◌, ◌+◌, ◌<◌, ◌∙◌, ◌∷◌, ◌≡◌, ◌≤◌}
 use Rattle.basics.proofs.Shared.Tests.{some_place, no_place}
 
 pub split-some : (p : ℕ → Bool) (line : List ℕ) (n : ℕ) → position p line ≡ Some n → slice_split p line ≡ take n line ∷ slice_split p (drop (n + 1) line)

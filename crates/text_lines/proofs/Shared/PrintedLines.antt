@@ -1,10 +1,5 @@
 -- Printed lines: their ends, and that texts of them come back.
-use Rattle.std.proofs.Common.{◌≡◌, ap, refl, ℕ, ◌<◌, ◌≤◌, List, [], ◌∷◌, ◌++◌, length, arith, append_assoc}
-use Rattle.std.specs.List.{AllByRecursion}
-use Rattle.basics.proofs.Shared.Lists.{all_so}
-use Rattle.text_lines.specs.Blanks.{before_end, trim, trim_end}
-use Rattle.text_lines.specs.LineEnds.{text_of_lines}
-use Rattle.text_lines.specs.Lines.{NoLineFeed, says, strip_carriage_return}
+use Rattle.text_lines.proofs.Names.{AllByRecursion, List, NoLineFeed, [], all_so, ap, append_assoc, arith, before_end, length, refl, says, strip_carriage_return, text_of_lines, trim, trim_end, ℕ, ◌++◌, ◌<◌, ◌∷◌, ◌≡◌, ◌≤◌}
 use Rattle.text_lines.specs.RuleNames.{IsNameByte}
 use Rattle.text_lines.proofs.Shared.ByteRanges.{IsPrinted, IsVisible, differs, visible-printed, visible-solid}
 use Rattle.text_lines.proofs.Shared.LineEnds.{one-line, says-line, strip-none}

@@ -1,10 +1,7 @@
 -- Trimming, a byte at a time.
-use Rattle.std.proofs.Common.{◌≡◌, ◌≢◌, ℕ, ◌-◌, ◌≤◌, ◌==◌, List, [], ◌∷◌, ◌++◌, length, take, get_or, true, false, cond, sym, ◌∙◌, ap, refl, arith, append-nil, append_assoc}
-use Rattle.basics.proofs.Shared.Lists.{push_not_nil}
+use Rattle.text_lines.proofs.Names.{AllByRecursion, IsBlank, List, [], ap, append-nil, append_assoc, arith, before_end, cond, false, get_or, is_blank, length, push_not_nil, refl, strip_carriage_return, sym, take, trim, trim_end, true, ℕ}
+use Rattle.text_lines.proofs.Names.{◌++◌, ◌-◌, ◌==◌, ◌∙◌, ◌∷◌, ◌≡◌, ◌≢◌, ◌≤◌}
 use native.Mathlib.Numerals.{unary_clauses}
-use Rattle.std.specs.List.{AllByRecursion}
-use Rattle.text_lines.specs.Blanks.{IsBlank, is_blank, before_end, trim, trim_end}
-use Rattle.text_lines.specs.Lines.{strip_carriage_return}
 
 pub before_end-more : (x : ℕ) (ys : List ℕ) → ys ≢ [] → before_end x ys ≡ x ∷ ys
 before_end-more x [] h = absurd (h refl)

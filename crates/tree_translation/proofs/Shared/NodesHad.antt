@@ -1,16 +1,9 @@
 -- Trees have as many nodes as their tables need.
-use Rattle.std.proofs.Common.{◌≡◌, ◌∙◌, ℕ, suc, ◌+◌, ◌-◌, ◌<◌, ◌≤◌, List, [], ◌∷◌, ◌++◌, All, Ok, length, slice_index, slice_index_or, refl, sym, ap, inl, inr, arith}
-use Rattle.std.proofs.lemmas.Bool.{cases_order}
-use Rattle.std.proofs.lemmas.List.{length-map}
-use Rattle.std.proofs.lemmas.List.Elements.{All-tail}
+use Rattle.tree_translation.proofs.Names.{All, All-tail, Entries, List, NeedTwoNodes, NeedsNodes, Neighbors, Ok, Table, Translates, Tree, [], ap, arith, cases_order, follow, inl, inputs_of, inr, length, length-map, neighbors_of, places_of}
+use Rattle.tree_translation.proofs.Names.{refl, root_of, slice_index, slice_index_or, suc, sym, ℕ, ◌++◌, ◌+◌, ◌-◌, ◌<◌, ◌∙◌, ◌∷◌, ◌≡◌, ◌≤◌}
 use Rattle.indexmap.proofs.IndexTableLemmas.Probe.{pigeonhole}
 use Rattle.rule_file.specs.RuleFile.{Section}
 use Rattle.table_symmetry.specs.NextState as table_rule
-use Rattle.table_symmetry.specs.Table.{Table}
-use Rattle.decision_tree.specs.declared.tree.Neighbors.{Neighbors}
-use Rattle.tree_translation.specs.NodesNeeded.{NeedTwoNodes, NeedsNodes}
-use Rattle.tree_translation.specs.Translation.{Translates, neighbors_of}
-use Rattle.decision_tree.specs.Tree.{Entries, Tree, follow, inputs_of, places_of, root_of}
 use Rattle.decision_tree.specs.TreeLines.{depth_of_root, tree_of}
 use Rattle.decision_tree.proofs.Shared.SaidNodes.{AreGraded, IsSaid, depths_of, entries_in, led, section-says}
 

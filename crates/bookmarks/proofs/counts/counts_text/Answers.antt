@@ -1,5 +1,4 @@
-use Rattle.std.proofs.Common.{◌+◌, ◌∙◌, ap, arith, refl}
-use Rattle.bookmarks.specs.Counts.{or_empty}
+use Rattle.bookmarks.proofs.Names.{ap, arith, or_empty, refl, ◌+◌, ◌∙◌}
 use Rattle.bookmarks.proofs.Lines.{lines-more, lines_all}
 use Rattle.bookmarks.proofs.counts.counts_text.Goals as goal
 

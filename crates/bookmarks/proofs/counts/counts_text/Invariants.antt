@@ -1,5 +1,4 @@
-use Rattle.std.proofs.Common.{◌≡◌, ◌+◌, ◌-◌, ◌++◌}
-use Rattle.bookmarks.specs.Counts.{count_lines}
+use Rattle.bookmarks.proofs.Names.{count_lines, ◌++◌, ◌+◌, ◌-◌, ◌≡◌}
 use Rattle.bookmarks.proofs.counts.counts_text.Given as goal
 
 abbrev pub invariant-loop-below : goal.invariant-loop-below

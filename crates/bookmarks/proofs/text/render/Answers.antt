@@ -1,6 +1,4 @@
-use Rattle.std.proofs.Common.{subst}
-use Rattle.std.specs.Prelude.{IsTrue}
-use Rattle.bookmarks.specs.Within.{has_window_size}
+use Rattle.bookmarks.proofs.Names.{IsTrue, has_window_size, subst}
 use Rattle.bookmarks.proofs.Places.{area}
 use Rattle.bookmarks.proofs.text.render.Goals as goal
 

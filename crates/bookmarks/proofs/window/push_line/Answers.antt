@@ -1,7 +1,4 @@
-use Rattle.std.proofs.Common.{◌∙◌, ap, ◌++◌, ◌<◌, map, take, get_or, length, append_assoc, arith}
-use Rattle.std.specs.Prelude.{decimal}
-use Rattle.std.specs.List.{join_with_byte}
-use Rattle.bookmarks.specs.Window.{next_state}
+use Rattle.bookmarks.proofs.Names.{ap, append_assoc, arith, decimal, get_or, join_with_byte, length, map, next_state, take, ◌++◌, ◌<◌, ◌∙◌}
 use Rattle.bookmarks.proofs.Rows.{line-more}
 use Rattle.bookmarks.proofs.window.push_line.Goals as goal
 

@@ -1,6 +1,4 @@
-use Rattle.std.proofs.Common.{◌≡◌, ◌++◌, map, take}
-use Rattle.std.specs.Prelude.{decimal}
-use Rattle.std.specs.List.{join_with_byte}
+use Rattle.bookmarks.proofs.Names.{decimal, join_with_byte, map, take, ◌++◌, ◌≡◌}
 use Rattle.bookmarks.proofs.window.push_line.Given as goal
 
 abbrev pub invariant-loop-column : goal.invariant-loop-column

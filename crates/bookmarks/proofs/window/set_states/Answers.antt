@@ -1,5 +1,4 @@
-use Rattle.std.proofs.Common.{◌≡◌, refl, ℕ, ◌*◌, ◌+◌, ◌<◌, ◌∙◌, sym, subst, length, length-set, get_or, take, pos, ◌+ℤ◌, arith, rules, Fits, SFits, w64, to_z, of_z}
-use Rattle.bookmarks.specs.Window.{state_at, last_state}
+use Rattle.bookmarks.proofs.Names.{Fits, SFits, arith, get_or, last_state, length, length-set, of_z, pos, refl, rules, state_at, subst, sym, take, to_z, w64, ℕ, ◌*◌, ◌+ℤ◌, ◌+◌, ◌<◌, ◌∙◌, ◌≡◌}
 use Rattle.bookmarks.proofs.Places.{no_cell, number, shown-set}
 use Rattle.bookmarks.proofs.window.set_states.Goals as goal
 

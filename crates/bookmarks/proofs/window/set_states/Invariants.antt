@@ -1,5 +1,4 @@
-use Rattle.std.proofs.Common.{◌≡◌, ℕ, ◌+◌, ◌*◌, ◌<◌, pos, ◌+ℤ◌, take, length}
-use Rattle.bookmarks.specs.Window.{last_state, state_at}
+use Rattle.bookmarks.proofs.Names.{last_state, length, pos, state_at, take, ℕ, ◌*◌, ◌+ℤ◌, ◌+◌, ◌<◌, ◌≡◌}
 use Rattle.bookmarks.proofs.window.set_states.Given as goal
 
 abbrev pub invariant-loop-cell : goal.invariant-loop-cell

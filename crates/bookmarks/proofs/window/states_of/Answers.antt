@@ -1,10 +1,4 @@
-use Rattle.std.proofs.Common.{◌≡◌, refl, ◌*◌, ◌++◌, ◌∙◌, ap, sym, subst, List, length, take, drop, take_at, pos, ◌+ℤ◌, arith, rules, w64, to_z, of_z}
-use Rattle.std.specs.Prelude.{All}
-use Rattle.std.proofs.lemmas.Int.{ints}
-use Rattle.std.proofs.lemmas.List.Elements.{All-weaker}
-use Rattle.worlds.specs.declared.cell.Cell.{Cell}
-use Rattle.plane_core.specs.Within.{IsLiveWithin}
-use Rattle.bookmarks.specs.Window.{IsIn, ShowsWindow, last_state}
+use Rattle.bookmarks.proofs.Names.{All, All-weaker, Cell, IsIn, IsLiveWithin, List, ShowsWindow, ap, arith, drop, ints, last_state, length, of_z, pos, refl, rules, subst, sym, take, take_at, to_z, w64, ◌*◌, ◌++◌, ◌+ℤ◌, ◌∙◌, ◌≡◌}
 use Rattle.bookmarks.proofs.Places.{spanned, is_in, last-within, number_below}
 use Rattle.bookmarks.proofs.window.states_of.Goals as goal
 

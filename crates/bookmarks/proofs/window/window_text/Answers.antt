@@ -1,5 +1,4 @@
-use Rattle.std.proofs.Common.{◌≡◌, ◌<◌, ◌∙◌, sym, ap, ◌+◌, ◌*◌, ◌++◌, pos, ◌+ℤ◌, take, drop, arith, rules, to_z, of_z, w64}
-use Rattle.bookmarks.specs.Window.{row_line, line_of, window_text}
+use Rattle.bookmarks.proofs.Names.{ap, arith, drop, line_of, of_z, pos, row_line, rules, sym, take, to_z, w64, window_text, ◌*◌, ◌++◌, ◌+ℤ◌, ◌+◌, ◌<◌, ◌∙◌, ◌≡◌}
 use Rattle.bookmarks.proofs.Rows.{window-more, shown-line}
 use Rattle.bookmarks.proofs.window.window_text.Goals as goal
 

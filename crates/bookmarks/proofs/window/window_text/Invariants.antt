@@ -1,5 +1,4 @@
-use Rattle.std.proofs.Common.{◌≡◌}
-use Rattle.bookmarks.specs.Window.{window_text}
+use Rattle.bookmarks.proofs.Names.{window_text, ◌≡◌}
 use Rattle.bookmarks.proofs.window.window_text.Given as goal
 
 abbrev pub invariant-loop-row : goal.invariant-loop-row

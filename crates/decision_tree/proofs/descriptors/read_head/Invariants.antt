@@ -1,5 +1,4 @@
-use Rattle.std.proofs.Common.{◌≡◌, length}
-use Rattle.decision_tree.specs.TreeLines.{head_from, undescribed}
+use Rattle.decision_tree.proofs.Names.{head_from, length, undescribed, ◌≡◌}
 use Rattle.decision_tree.proofs.descriptors.read_head.Given as goal
 
 abbrev pub invariant-loop-left : goal.invariant-loop-left

@@ -1,5 +1,4 @@
-use Rattle.std.proofs.Common.{◌≡◌, ◌∙◌, ◌+◌, ◌*◌, ℕ, get_or, arith}
-use Rattle.decision_tree.specs.EntryForms.{states_at}
+use Rattle.decision_tree.proofs.Names.{arith, get_or, states_at, ℕ, ◌*◌, ◌+◌, ◌∙◌, ◌≡◌}
 use Rattle.decision_tree.proofs.Following.{Step, no_input, step_at}
 use Rattle.decision_tree.proofs.entries.follow_narrow.Goals as goal
 use Rattle.decision_tree.proofs.entries.follow_narrow.Goals.{In-loop-input}

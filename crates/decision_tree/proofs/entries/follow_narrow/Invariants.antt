@@ -1,7 +1,4 @@
-use Rattle.std.proofs.Common.{◌≡◌, ◌+◌, drop, true}
-use Rattle.decision_tree.specs.EntryForms.{states_at}
-use Rattle.decision_tree.specs.Kept.{nodes_in}
-use Rattle.decision_tree.specs.Tree.{follow, leads}
+use Rattle.decision_tree.proofs.Names.{drop, follow, leads, nodes_in, states_at, true, ◌+◌, ◌≡◌}
 use Rattle.decision_tree.proofs.entries.follow_narrow.Given as goal
 
 abbrev pub invariant-loop-input : goal.invariant-loop-input

@@ -1,6 +1,4 @@
-use Rattle.std.proofs.Common.{◌≡◌, ◌∙◌, ◌+◌, ◌*◌, ℕ, get_or, slice_index, arith}
-use Rattle.std.proofs.lemmas.List.{get_or_default}
-use Rattle.decision_tree.specs.EntryForms.{states_at}
+use Rattle.decision_tree.proofs.Names.{arith, get_or, get_or_default, slice_index, states_at, ℕ, ◌*◌, ◌+◌, ◌∙◌, ◌≡◌}
 use Rattle.decision_tree.proofs.Following.{Step, no_input, step_at}
 use Rattle.decision_tree.proofs.entries.follow_wide.Goals as goal
 use Rattle.decision_tree.proofs.entries.follow_wide.Goals.{In-loop-input}

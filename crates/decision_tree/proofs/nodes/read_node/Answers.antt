@@ -1,8 +1,4 @@
-use Rattle.std.proofs.Common.{◌≡◌, ◌∙◌, ◌-◌, ◌∷◌, length, map, take, drop, get_or, List, ℕ, Some, Ok, Err, sym, ap, inr, true, false}
-use Rattle.std.specs.Option.{option_map}
-use Rattle.rule_file.specs.declared.fault.RuleFault.TheVariants.{BadTree}
-use Rattle.decision_tree.specs.Kept.{saturated}
-use Rattle.decision_tree.specs.TreeLines.{is_next, numbers_in, words}
+use Rattle.decision_tree.proofs.Names.{BadTree, Err, List, Ok, Some, ap, drop, false, get_or, inr, is_next, length, map, numbers_in, option_map, saturated, sym, take, true, words, ℕ, ◌-◌, ◌∙◌, ◌∷◌, ◌≡◌}
 use Rattle.decision_tree.proofs.Shared.Growing.{IsNextNode, is_next-node, kept-push}
 use Rattle.decision_tree.proofs.Shared.KeptNodes.{first-and-others, nodes_of-push}
 use Rattle.decision_tree.proofs.NextNode.{with_kept}

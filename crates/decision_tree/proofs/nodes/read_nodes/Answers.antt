@@ -1,6 +1,5 @@
-use Rattle.std.proofs.Common.{◌∙◌, sym, inr, arith}
+use Rattle.decision_tree.proofs.Names.{arith, common_steps, inr, sym, ◌∙◌}
 use Rattle.std.proofs.Math.ListN.{drop_of_length-le}
-use Rattle.std.proofs.lemmas.Grind.{common_steps}
 use Rattle.decision_tree.proofs.Shared.KeptNodes.{length-nodes_of}
 use Rattle.decision_tree.proofs.nodes.read_nodes.Goals as goal
 

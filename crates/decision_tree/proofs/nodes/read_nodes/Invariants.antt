@@ -1,6 +1,4 @@
-use Rattle.std.proofs.Common.{◌≡◌, [], drop}
-use Rattle.decision_tree.specs.Kept.{AreKept, nodes_of}
-use Rattle.decision_tree.specs.TreeLines.{nodes_from}
+use Rattle.decision_tree.proofs.Names.{AreKept, [], drop, nodes_from, nodes_of, ◌≡◌}
 use Rattle.decision_tree.proofs.nodes.read_nodes.Given as goal
 
 abbrev pub invariant-loop-line : goal.invariant-loop-line

@@ -1,8 +1,4 @@
-use Rattle.std.proofs.Common.{◌≡◌, length, map, filter}
-use Rattle.std.specs.Option.{option_map}
-use Rattle.decision_tree.specs.Kept.{saturated}
-use Rattle.text_lines.specs.Numbers.{is_word}
-use Rattle.decision_tree.specs.TreeLines.{numbers_in, words}
+use Rattle.decision_tree.proofs.Names.{filter, is_word, length, map, numbers_in, option_map, saturated, words, ◌≡◌}
 use Rattle.decision_tree.proofs.KeptNumbers.{with_front}
 use Rattle.decision_tree.proofs.numbers.read_numbers.Given as goal
 

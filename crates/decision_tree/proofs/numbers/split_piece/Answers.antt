@@ -1,6 +1,4 @@
-use Rattle.std.proofs.Common.{sym, ◌∙◌, arith}
-use Rattle.std.proofs.lemmas.Grind.{common_steps}
-use Rattle.text_lines.specs.Blanks.{is_blank}
+use Rattle.decision_tree.proofs.Names.{arith, common_steps, is_blank, sym, ◌∙◌}
 use Rattle.text_lines.proofs.Shared.Pieces.{split-some, split-none}
 use Rattle.decision_tree.proofs.numbers.split_piece.Goals as goal
 

@@ -1,8 +1,4 @@
-use Rattle.std.proofs.Common.{◌≡◌, ◌∙◌, ◌-◌, Ok, sym, ap, inr, arith}
-use Rattle.worlds.specs.Step.{nine_zeros}
-use Rattle.decision_tree.specs.Kept.{IsKeptTree, tree_of_kept}
-use Rattle.decision_tree.specs.Tree.{next}
-use Rattle.decision_tree.specs.TreeLines.{if_quiescent}
+use Rattle.decision_tree.proofs.Names.{IsKeptTree, Ok, ap, arith, if_quiescent, inr, next, nine_zeros, sym, tree_of_kept, ◌-◌, ◌∙◌, ◌≡◌}
 use Rattle.decision_tree.proofs.Finishing.{if_quiescent-no, if_quiescent-yes, kept-tree, tree-kept}
 use Rattle.decision_tree.proofs.Following.{next-kept}
 use Rattle.decision_tree.proofs.tree_reader.finish.Goals as goal

@@ -1,6 +1,4 @@
-use Rattle.std.proofs.Common.{◌≡◌, ◌∙◌, ◌-◌, length, Some, sym, ap}
-use Rattle.std.specs.List.{slice_get}
-use Rattle.std.specs.Option.{option_copied}
+use Rattle.decision_tree.proofs.Names.{Some, ap, length, option_copied, slice_get, sym, ◌-◌, ◌∙◌, ◌≡◌}
 use Rattle.decision_tree.proofs.LastLine.{last_number-some}
 use Rattle.decision_tree.proofs.tree_reader.last_line.Goals as goal
 

@@ -1,5 +1,4 @@
-use Rattle.decision_tree.specs.TreeLines.{head_from, undescribed}
-use Rattle.rule_file.proofs.Shared.Readings.{handed_on}
+use Rattle.decision_tree.proofs.Names.{handed_on, head_from, undescribed}
 use Rattle.decision_tree.proofs.HeadFaults.{head_from-none}
 use Rattle.decision_tree.proofs.tree_reader.read_tree.Goals as goal
 

@@ -1,5 +1,4 @@
-use Rattle.std.proofs.Common.{◌∙◌, sym}
-use Rattle.dependency_book.specs.Ready.{steppable}
+use Rattle.dependency_book.proofs.Names.{steppable, sym, ◌∙◌}
 use Rattle.dependency_book.proofs.Readied.{none_more}
 use Rattle.dependency_book.proofs.need.first_step.Goals as goal
 

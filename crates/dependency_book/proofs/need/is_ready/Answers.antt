@@ -1,8 +1,4 @@
-use Rattle.std.proofs.Common.{◌∙◌, sym, ap}
-use Rattle.dependency_book.specs.RowState.{is_known}
-use Rattle.dependency_book.specs.Rows.{by_key}
-use Rattle.document_marks.specs.AllMarks.{mark_rank}
-use Rattle.ranked_rows.specs.Rows.{row_at}
+use Rattle.dependency_book.proofs.Names.{ap, by_key, is_known, mark_rank, row_at, sym, ◌∙◌}
 use Rattle.dependency_book.proofs.Readied.{ready_in}
 use Rattle.dependency_book.proofs.Standing.{state_in}
 use Rattle.dependency_book.proofs.need.is_ready.Goals as goal

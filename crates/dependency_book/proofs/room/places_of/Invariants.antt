@@ -1,6 +1,4 @@
-use Rattle.std.proofs.Common.{◌≡◌, take, vec_len}
-use Rattle.std.specs.Prelude.{vec_capacity}
-use Rattle.dependency_book.specs.Held.{places_of}
+use Rattle.dependency_book.proofs.Names.{places_of, take, vec_capacity, vec_len, ◌≡◌}
 use Rattle.dependency_book.proofs.room.places_of.Given as goal
 
 abbrev pub invariant-loop-bookmark : goal.invariant-loop-bookmark

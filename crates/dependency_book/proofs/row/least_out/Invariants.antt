@@ -1,5 +1,4 @@
-use Rattle.std.proofs.Common.{◌≡◌, drop}
-use Rattle.dependency_book.specs.RowState.{lesser, least_out}
+use Rattle.dependency_book.proofs.Names.{drop, least_out, lesser, ◌≡◌}
 use Rattle.dependency_book.proofs.row.least_out.Given as goal
 
 abbrev pub invariant-loop-row : goal.invariant-loop-row

@@ -1,9 +1,4 @@
-use Rattle.std.proofs.Common.{◌∙◌, get_or, sym, ap, subst}
-use Rattle.std.proofs.Math.ListN.{set}
-use Rattle.dependency_book.specs.declared.row.Row.{Row}
-use Rattle.dependency_book.specs.Rows.{by_key}
-use Rattle.ranked_rows.specs.Rows.{IsAt, row_at}
-use Rattle.ranked_rows.proofs.Shared.Places.{stands}
+use Rattle.dependency_book.proofs.Names.{IsAt, Row, ap, by_key, get_or, row_at, set, stands, subst, sym, ◌∙◌}
 use Rattle.dependency_book.proofs.Standing.{put_absent, put_there}
 use Rattle.dependency_book.proofs.row.put.Goals as goal
 

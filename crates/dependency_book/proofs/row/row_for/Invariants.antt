@@ -1,5 +1,4 @@
-use Rattle.std.proofs.Common.{◌≡◌, drop}
-use Rattle.dependency_book.specs.RowState.{row_for}
+use Rattle.dependency_book.proofs.Names.{drop, row_for, ◌≡◌}
 use Rattle.dependency_book.proofs.row.row_for.Given as goal
 
 abbrev pub invariant-loop-row : goal.invariant-loop-row

@@ -1,5 +1,4 @@
-use Rattle.std.proofs.Common.{◌≡◌, ◌≤◌, count_by, take}
-use Rattle.dependency_book.specs.BookState.{is_pending}
+use Rattle.dependency_book.proofs.Names.{count_by, is_pending, take, ◌≡◌, ◌≤◌}
 use Rattle.dependency_book.proofs.texts.pending_count.Given as goal
 
 abbrev pub invariant-loop-row : goal.invariant-loop-row

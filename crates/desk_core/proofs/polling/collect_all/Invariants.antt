@@ -1,7 +1,4 @@
-use Rattle.std.proofs.Common.{◌≡◌, ◌+◌, length}
-use Rattle.dependency_book.specs.BookState.{given_of}
-use Rattle.desk_core.specs.declared.unsent.Unsent.TheVariants.{Nothing}
-use Rattle.desk_core.specs.Progress.{HasCome, stage}
+use Rattle.desk_core.proofs.Names.{HasCome, Nothing, given_of, length, stage, ◌+◌, ◌≡◌}
 use Rattle.desk_core.proofs.polling.collect_all.Given as goal
 
 abbrev pub invariant-loop : goal.invariant-loop

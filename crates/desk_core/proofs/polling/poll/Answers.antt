@@ -1,5 +1,4 @@
-use Rattle.std.proofs.Common.{refl, subst, None}
-use Rattle.desk_core.specs.Progress.{CollectsOn}
+use Rattle.desk_core.proofs.Names.{CollectsOn, None, refl, subst}
 use Rattle.desk_core.proofs.Polls.{none_of}
 use Rattle.desk_core.proofs.Steps.{Keeps-come, ServesOn-come}
 use Rattle.desk_core.proofs.polling.poll.Goals as goal

@@ -1,5 +1,4 @@
-use Rattle.std.proofs.Common.{◌∙◌}
-use Rattle.dependency_book.proofs.Shared.Settled.{none_pending}
+use Rattle.desk_core.proofs.Names.{none_pending, ◌∙◌}
 use Rattle.desk_core.proofs.Steps.{serves-whole, settles-whole, whole}
 use Rattle.desk_core.proofs.Turns.{cause-left, caused-so, ends-so, why-left}
 use Rattle.desk_core.proofs.settling.settle_seen.Goals as goal

@@ -1,7 +1,4 @@
-use Rattle.std.proofs.Common.{◌++◌, ◌∙◌, sym, ap}
-use Rattle.std.specs.Option.{option_map}
-use Rattle.script_lines.specs.Words.{words}
-use Rattle.desk_script.specs.Command.{cells_of}
+use Rattle.desk_script.proofs.Names.{ap, cells_of, option_map, sym, words, ◌++◌, ◌∙◌}
 use Rattle.desk_script.proofs.Prepends.{prepends_one}
 use Rattle.desk_script.proofs.cells.read_cells.Goals as goal
 

@@ -1,7 +1,4 @@
-use Rattle.std.proofs.Common.{◌≡◌, ◌++◌, length}
-use Rattle.std.specs.Option.{option_map}
-use Rattle.script_lines.specs.Words.{words}
-use Rattle.desk_script.specs.Command.{cells_of}
+use Rattle.desk_script.proofs.Names.{cells_of, length, option_map, words, ◌++◌, ◌≡◌}
 use Rattle.desk_script.proofs.cells.read_cells.Given as goal
 
 abbrev pub invariant-loop-cells : goal.invariant-loop-cells

@@ -1,6 +1,4 @@
-use Rattle.std.proofs.Common.{OnErr, rules, subst, sym}
-use Rattle.script_lines.specs.Words.{words}
-use Rattle.desk_script.specs.Heard.{LineCanLackMemory}
+use Rattle.desk_script.proofs.Names.{LineCanLackMemory, OnErr, rules, subst, sym, words}
 use Rattle.desk_script.proofs.Lacking.{looked}
 use Rattle.desk_script.proofs.command.read_by.Goals as goal
 

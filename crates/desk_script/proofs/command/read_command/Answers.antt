@@ -1,6 +1,4 @@
-use Rattle.std.proofs.Common.{sym, subst, OnErr}
-use Rattle.desk_script.specs.Command.{command_of_words}
-use Rattle.desk_script.specs.Heard.{LineCanLackMemory}
+use Rattle.desk_script.proofs.Names.{LineCanLackMemory, OnErr, command_of_words, subst, sym}
 use Rattle.desk_script.proofs.command.read_command.Goals as goal
 
 pub returns-clause-err : goal.returns-clause-err

@@ -1,6 +1,4 @@
-use Rattle.script_lines.specs.Words.{words}
-use Rattle.script_lines.proofs.Shared.Known.{on_err}
-use Rattle.desk_script.specs.Command.{edit_by}
+use Rattle.desk_script.proofs.Names.{edit_by, on_err, words}
 use Rattle.desk_script.proofs.Lacking.{edit-lacks}
 use Rattle.desk_script.proofs.command.read_edit_command.Goals as goal
 

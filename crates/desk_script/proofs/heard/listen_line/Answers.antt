@@ -1,9 +1,4 @@
-use Rattle.std.proofs.Common.{◌≡◌, ◌∙◌, ap, sym, subst, List, ℕ, Option, None, Some}
-use Rattle.script_lines.specs.Words.{words}
-use Rattle.desk_script.specs.Command.{command_of_words, format_of, format_of_words}
-use Rattle.desk_script.specs.Heard.{IsReadAs}
-use Rattle.desk_script.specs.Asks.{asked_by}
-use Rattle.desk_script.specs.declared.format.Format.{Format}
+use Rattle.desk_script.proofs.Names.{Format, IsReadAs, List, None, Option, Some, ap, asked_by, command_of_words, format_of, format_of_words, subst, sym, words, ℕ, ◌∙◌, ◌≡◌}
 use Rattle.desk_script.proofs.Hearing.{if_ok_map, on_err_map, hears-command, hears-last_text, hears-text, breaks-text}
 use Rattle.desk_script.proofs.Lacking.{long-lacks}
 use Rattle.desk_script.proofs.heard.listen_line.Goals as goal

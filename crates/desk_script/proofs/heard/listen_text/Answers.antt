@@ -1,5 +1,4 @@
-use Rattle.std.proofs.Common.{arith}
-use Rattle.script_lines.proofs.Shared.Known.{on_err}
+use Rattle.desk_script.proofs.Names.{arith, on_err}
 use Rattle.desk_script.proofs.Hearing.{reads-ended, reads-open, reads-most, breaks-open_text}
 use Rattle.desk_script.proofs.heard.listen_text.Goals as goal
 

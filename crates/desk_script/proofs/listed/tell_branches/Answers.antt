@@ -1,7 +1,5 @@
-use Rattle.std.proofs.Common.{◌∙◌, ◌<◌, length, arith}
-use Rattle.script_lines.proofs.Shared.Told.{wrote_err}
+use Rattle.desk_script.proofs.Names.{arith, branch_line, length, wrote_err, ◌<◌, ◌∙◌}
 use Rattle.desk_script.proofs.Shared.Parts.{parts_more, parts_broken}
-use Rattle.desk_script.specs.Listed.{branch_line}
 use Rattle.desk_script.proofs.listed.tell_branches.Goals as goal
 
 pub returns-in_err-tell_branch-clause-bytes : goal.returns-in_err-tell_branch-clause-bytes

@@ -1,7 +1,4 @@
-use Rattle.std.proofs.Common.{◌≡◌, drop}
-use Rattle.std.specs.Prelude.{flat_map}
-use Rattle.script_lines.proofs.Shared.Told.{IsUnderWay}
-use Rattle.desk_script.specs.Listed.{branch_line}
+use Rattle.desk_script.proofs.Names.{IsUnderWay, branch_line, drop, flat_map, ◌≡◌}
 use Rattle.desk_script.proofs.listed.tell_branches.Given as goal
 
 abbrev pub invariant-loop-branch : goal.invariant-loop-branch

@@ -1,5 +1,4 @@
-use Rattle.std.proofs.Common.{subst, rules}
-use Rattle.script_lines.specs.Faults.{Wrote}
+use Rattle.desk_script.proofs.Names.{Wrote, rules, subst}
 use Rattle.desk_script.proofs.Listing.{every-line, once-line}
 use Rattle.desk_script.proofs.listed.tell_intervention.Goals as goal
 

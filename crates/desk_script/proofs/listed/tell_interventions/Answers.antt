@@ -1,9 +1,5 @@
-use Rattle.std.proofs.Common.{◌≡◌, ◌∙◌, ◌<◌, length, get_or, arith, ap, sym, subst, rules}
-use Rattle.std.specs.Io.KnownBytes.{Appends}
-use Rattle.script_lines.specs.Faults.{AppendsFront}
-use Rattle.script_lines.proofs.Shared.Told.{wrote_err}
+use Rattle.desk_script.proofs.Names.{Appends, AppendsFront, ap, arith, get_or, intervention_line, length, rules, subst, sym, wrote_err, ◌<◌, ◌∙◌, ◌≡◌}
 use Rattle.desk_script.proofs.Shared.Parts.{parts_more, parts_broken}
-use Rattle.desk_script.specs.Listed.{intervention_line}
 use Rattle.desk_script.proofs.listed.tell_interventions.Goals as goal
 
 pub returns-in_err-tell_intervention-clause-bytes : goal.returns-in_err-tell_intervention-clause-bytes

@@ -1,7 +1,4 @@
-use Rattle.std.proofs.Common.{◌≡◌, drop}
-use Rattle.std.specs.Prelude.{flat_map}
-use Rattle.script_lines.proofs.Shared.Told.{IsUnderWay}
-use Rattle.desk_script.specs.Listed.{intervention_line}
+use Rattle.desk_script.proofs.Names.{IsUnderWay, drop, flat_map, intervention_line, ◌≡◌}
 use Rattle.desk_script.proofs.listed.tell_interventions.Given as goal
 
 abbrev pub invariant-loop-intervention : goal.invariant-loop-intervention

@@ -1,5 +1,4 @@
-use Rattle.std.proofs.Common.{drop}
-use Rattle.desk_script.specs.Parts.{part_text}
+use Rattle.desk_script.proofs.Names.{drop, part_text}
 use Rattle.desk_script.proofs.Pushed.{IsGrowing}
 use Rattle.desk_script.proofs.part.push_parts.Given as goal
 

@@ -1,6 +1,4 @@
-use Rattle.std.proofs.Common.{◌∙◌, ◌<◌, length, arith}
-use Rattle.script_lines.proofs.Shared.Told.{wrote_err}
-use Rattle.desk_script.specs.Parts.{part_text}
+use Rattle.desk_script.proofs.Names.{arith, length, part_text, wrote_err, ◌<◌, ◌∙◌}
 use Rattle.desk_script.proofs.Shared.Parts.{parts_more, parts_broken}
 use Rattle.desk_script.proofs.part.tell_parts.Goals as goal
 

@@ -1,7 +1,4 @@
-use Rattle.std.proofs.Common.{◌≡◌, drop}
-use Rattle.std.specs.Prelude.{flat_map}
-use Rattle.script_lines.proofs.Shared.Told.{IsUnderWay}
-use Rattle.desk_script.specs.Parts.{part_text}
+use Rattle.desk_script.proofs.Names.{IsUnderWay, drop, flat_map, part_text, ◌≡◌}
 use Rattle.desk_script.proofs.part.tell_parts.Given as goal
 
 abbrev pub invariant-loop-part : goal.invariant-loop-part

@@ -1,6 +1,4 @@
-use Rattle.std.proofs.Common.{◌<◌, ◌∙◌, ◌++◌, ap, length, codes, refl, arith}
-use Rattle.schedule.specs.Ids.{bookmark_id}
-use Rattle.document_replay.specs.Replay.{add_bookmark, ids_between, skip_bookmark}
+use Rattle.desk_script.proofs.Names.{add_bookmark, ap, arith, bookmark_id, codes, ids_between, length, refl, skip_bookmark, ◌++◌, ◌<◌, ◌∙◌}
 use Rattle.desk_script.proofs.Pushed.{added-more, skipped, bookmark-skipped}
 use Rattle.desk_script.proofs.scripting.push_bookmarks.Goals as goal
 

@@ -1,6 +1,4 @@
-use Rattle.std.proofs.Common.{drop}
-use Rattle.schedule.specs.Ids.{bookmark_id}
-use Rattle.document_replay.specs.Replay.{add_bookmark, skip_bookmark}
+use Rattle.desk_script.proofs.Names.{add_bookmark, bookmark_id, drop, skip_bookmark}
 use Rattle.desk_script.proofs.Pushed.{IsAdding}
 use Rattle.desk_script.proofs.scripting.push_bookmarks.Given as goal
 

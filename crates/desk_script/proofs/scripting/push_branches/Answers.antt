@@ -1,6 +1,4 @@
-use Rattle.std.proofs.Common.{◌<◌, ◌∙◌, ◌++◌, ap, length, codes, refl, arith}
-use Rattle.schedule.specs.Ids.{branch_id}
-use Rattle.document_replay.specs.Replay.{add_branch, ids_between, skip_branch}
+use Rattle.desk_script.proofs.Names.{add_branch, ap, arith, branch_id, codes, ids_between, length, refl, skip_branch, ◌++◌, ◌<◌, ◌∙◌}
 use Rattle.desk_script.proofs.Pushed.{added-more, skipped, branch-skipped}
 use Rattle.desk_script.proofs.scripting.push_branches.Goals as goal
 

@@ -1,6 +1,4 @@
-use Rattle.std.proofs.Common.{drop}
-use Rattle.schedule.specs.Ids.{branch_id}
-use Rattle.document_replay.specs.Replay.{add_branch, skip_branch}
+use Rattle.desk_script.proofs.Names.{add_branch, branch_id, drop, skip_branch}
 use Rattle.desk_script.proofs.Pushed.{IsAdding}
 use Rattle.desk_script.proofs.scripting.push_branches.Given as goal
 

@@ -1,5 +1,4 @@
-use Rattle.std.proofs.Common.{drop}
-use Rattle.desk_script.specs.Scripted.{cell_words}
+use Rattle.desk_script.proofs.Names.{cell_words, drop}
 use Rattle.desk_script.proofs.Pushed.{IsGrowing}
 use Rattle.desk_script.proofs.scripting.push_cells.Given as goal
 

@@ -1,6 +1,4 @@
-use Rattle.std.proofs.Common.{◌<◌, ◌∙◌, ◌++◌, ap, length, codes, sym, arith}
-use Rattle.schedule.specs.Ids.{intervention_id}
-use Rattle.document_replay.specs.Replay.{add_intervention, ids_between, skip_intervention}
+use Rattle.desk_script.proofs.Names.{add_intervention, ap, arith, codes, ids_between, intervention_id, length, skip_intervention, sym, ◌++◌, ◌<◌, ◌∙◌}
 use Rattle.desk_script.proofs.Pushed.{added-more, skipped, intervention-skipped}
 use Rattle.desk_script.proofs.scripting.push_interventions.Goals as goal
 

@@ -1,6 +1,4 @@
-use Rattle.std.proofs.Common.{drop}
-use Rattle.schedule.specs.Ids.{intervention_id}
-use Rattle.document_replay.specs.Replay.{add_intervention, skip_intervention}
+use Rattle.desk_script.proofs.Names.{add_intervention, drop, intervention_id, skip_intervention}
 use Rattle.desk_script.proofs.Pushed.{IsAdding}
 use Rattle.desk_script.proofs.scripting.push_interventions.Given as goal
 

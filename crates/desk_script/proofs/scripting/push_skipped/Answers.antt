@@ -1,5 +1,4 @@
-use Rattle.std.proofs.Common.{◌<◌, arith}
-use Rattle.desk_script.specs.Scripted.{skip_lines}
+use Rattle.desk_script.proofs.Names.{arith, skip_lines, ◌<◌}
 use Rattle.desk_script.proofs.Pushed.{pushed-more}
 use Rattle.desk_script.proofs.scripting.push_skipped.Goals as goal
 

@@ -1,7 +1,4 @@
-use Rattle.std.proofs.Common.{◌-◌}
-use Rattle.std.specs.List.{range_with_len}
-use Rattle.document_replay.specs.Replay.{ids_between}
-use Rattle.desk_script.specs.Scripted.{skip_lines}
+use Rattle.desk_script.proofs.Names.{ids_between, range_with_len, skip_lines, ◌-◌}
 use Rattle.desk_script.proofs.Pushed.{IsGrowing}
 use Rattle.desk_script.proofs.scripting.push_skipped.Given as goal
 

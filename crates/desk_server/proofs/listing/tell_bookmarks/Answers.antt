@@ -1,11 +1,4 @@
-use Rattle.std.proofs.Common.{◌∙◌, sym, ap, subst}
-use Rattle.std.specs.Prelude.{flat_map}
-use Rattle.std.specs.Io.KnownBytes.{Appends}
-use Rattle.script_lines.specs.Faults.{AppendsFront}
-use Rattle.script_lines.proofs.Shared.Told.{IsUnderWay, wrote_err}
-use Rattle.desk_script.proofs.Shared.Parts.{more, broken}
-use Rattle.desk_script.specs.Listed.{bookmark_line}
-use Rattle.desk_server.specs.Told.{row_line}
+use Rattle.desk_server.proofs.Names.{Appends, AppendsFront, IsUnderWay, ap, bookmark_line, broken, flat_map, more, row_line, subst, sym, wrote_err, ◌∙◌}
 use Rattle.desk_server.proofs.Lines.{row-line}
 use Rattle.desk_server.proofs.listing.tell_bookmarks.Goals as goal
 

@@ -1,8 +1,4 @@
-use Rattle.std.proofs.Common.{◌≡◌}
-use Rattle.std.specs.Prelude.{flat_map}
-use Rattle.script_lines.proofs.Shared.Told.{IsUnderWay}
-use Rattle.dependency_book.specs.ShownRows.{shown_rows}
-use Rattle.desk_server.specs.Told.{row_line}
+use Rattle.desk_server.proofs.Names.{IsUnderWay, flat_map, row_line, shown_rows, ◌≡◌}
 use Rattle.desk_server.proofs.listing.tell_bookmarks.Given as goal
 
 abbrev pub invariant-loop-bookmark : goal.invariant-loop-bookmark

@@ -1,8 +1,4 @@
-use Rattle.std.proofs.Common.{arith, refl, subst, rules}
-use Rattle.script_lines.specs.Faults.{AppendsFront, Wrote}
-use Rattle.script_lines.proofs.Shared.Told.{front_first, front_then, wrote_err}
-use Rattle.desk_script.proofs.Shared.Parts.{wrote_then}
-use Rattle.desk_script.specs.Listed.{lines_of}
+use Rattle.desk_server.proofs.Names.{AppendsFront, Wrote, arith, front_first, front_then, lines_of, refl, rules, subst, wrote_err, wrote_then}
 use Rattle.desk_server.proofs.Lines.{all-lines}
 use Rattle.desk_server.proofs.listing.tell_list.Goals as goal
 

@@ -1,11 +1,5 @@
-use Rattle.std.proofs.Common.{refl, ap, rules}
+use Rattle.desk_server.proofs.Names.{BookState, NoMemory, NoShortage, ReplaceStart, ap, change, of_edit, refl, rules}
 use Rattle.std.specs.Arc.{arc_value}
-use Rattle.schedule.specs.Change.{change}
-use Rattle.schedule.specs.Asked.{ReplaceStart}
-use Rattle.schedule.specs.declared.fault.EditFault.TheVariants.{NoMemory}
-use Rattle.dependency_book.specs.BookState.{BookState}
-use Rattle.desk_server.specs.Shortage.{NoShortage}
-use Rattle.desk_server.specs.Faults.{of_edit}
 use Rattle.desk_server.proofs.Jobs.{drops_none, edit_drops}
 use Rattle.desk_server.proofs.Replies.{gives-refused}
 use Rattle.desk_server.proofs.serve.begin.Goals as goal

@@ -1,10 +1,4 @@
-use Rattle.std.proofs.Common.{refl, ap, rules}
-use Rattle.schedule.specs.Asked.{asked_of}
-use Rattle.schedule.specs.Change.{change}
-use Rattle.schedule.specs.declared.fault.EditFault.TheVariants.{NoMemory}
-use Rattle.dependency_book.specs.BookState.{BookState}
-use Rattle.desk_server.specs.Shortage.{NoShortage}
-use Rattle.desk_server.specs.Faults.{of_edit}
+use Rattle.desk_server.proofs.Names.{BookState, NoMemory, NoShortage, ap, asked_of, change, of_edit, refl, rules}
 use Rattle.desk_server.proofs.Jobs.{drops_none, edit_drops}
 use Rattle.desk_server.proofs.Replies.{gives-refused}
 use Rattle.desk_server.proofs.serve.edit.Goals as goal

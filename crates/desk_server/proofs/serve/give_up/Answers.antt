@@ -1,5 +1,4 @@
-use Rattle.std.proofs.Common.{arith, ◌∙◌, ◌<◌, ◌^◌, sym, subst, rules}
-use Rattle.dependency_book.specs.Jobs.{IsFirstOut}
+use Rattle.desk_server.proofs.Names.{IsFirstOut, arith, rules, subst, sym, ◌<◌, ◌^◌, ◌∙◌}
 use Rattle.desk_core.proofs.Shared.Causes.{explains-cancelled}
 use Rattle.desk_server.proofs.Jobs.{drops_none, drops_drops, cancel_drops, first_falls, numbers_from}
 use Rattle.desk_server.proofs.serve.give_up.Goals as goal

@@ -1,6 +1,4 @@
-use Rattle.std.proofs.Common.{◌≡◌}
-use Rattle.dependency_book.specs.Jobs.{IsFirstOut}
-use Rattle.desk_server.specs.Jobs.{DropsJobs, KeepsCauses}
+use Rattle.desk_server.proofs.Names.{DropsJobs, IsFirstOut, KeepsCauses, ◌≡◌}
 use Rattle.desk_server.proofs.Jobs.{numbers_from}
 use Rattle.desk_server.proofs.serve.give_up.Given as goal
 

@@ -1,6 +1,4 @@
-use Rattle.std.proofs.Common.{refl}
-use Rattle.desk_server.specs.Shortage.{Known}
-use Rattle.desk_server.specs.Told.{has_text}
+use Rattle.desk_server.proofs.Names.{Known, has_text, refl}
 use Rattle.desk_server.proofs.serve.list.Goals as goal
 
 pub returns-clause-answer : goal.returns-clause-answer

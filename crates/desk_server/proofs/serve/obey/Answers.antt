@@ -1,6 +1,4 @@
-use Rattle.std.proofs.Common.{arith, rules, sym, subst}
-use Rattle.desk_server.specs.Shortage.{NoShortage}
-use Rattle.desk_server.specs.Told.{TellsPending}
+use Rattle.desk_server.proofs.Names.{NoShortage, TellsPending, arith, rules, subst, sym}
 use Rattle.desk_server.proofs.Noted.{draws_more, unwatched}
 use Rattle.desk_server.proofs.Replies.{polled_goes_on}
 use Rattle.desk_server.proofs.serve.obey.Goals as goal

@@ -1,10 +1,5 @@
-use Rattle.std.proofs.Common.{◌∙◌, ap, refl, sym}
-use Rattle.schedule.specs.declared.fault.EditFault.TheVariants.{NoMemory}
+use Rattle.desk_server.proofs.Names.{Memory, NoMemory, NoShortage, ap, of_edit, only, refl, refused_text, scripted_text, sym, ◌∙◌}
 use Rattle.desk_script.specs.Scripted.{script_text}
-use Rattle.desk_server.specs.Answer.{only}
-use Rattle.desk_server.specs.Faults.{of_edit}
-use Rattle.desk_server.specs.Reply.{refused_text, scripted_text}
-use Rattle.desk_server.specs.Shortage.{Memory, NoShortage}
 use Rattle.desk_server.proofs.Replies.{gives-only}
 use Rattle.desk_server.proofs.serve.script.Goals as goal
 

@@ -1,5 +1,4 @@
-use Rattle.std.proofs.Common.{◌≢◌, rules}
-use Rattle.desk_server.specs.Shortage.{NoShortage}
+use Rattle.desk_server.proofs.Names.{NoShortage, rules, ◌≢◌}
 use Rattle.desk_server.proofs.Replies.{gives-unsettled}
 use Rattle.desk_server.proofs.serve.settle.Goals as goal
 

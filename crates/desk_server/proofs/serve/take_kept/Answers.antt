@@ -1,8 +1,4 @@
-use Rattle.std.proofs.Common.{refl}
-use Rattle.schedule.specs.declared.fault.EditFault.TheVariants.{NoMemory}
-use Rattle.desk_server.specs.Faults.{of_edit}
-use Rattle.desk_server.specs.Reply.{refused_text}
-use Rattle.desk_server.specs.Shortage.{Memory}
+use Rattle.desk_server.proofs.Names.{Memory, NoMemory, of_edit, refl, refused_text}
 use Rattle.desk_server.proofs.Replies.{gives-only}
 use Rattle.desk_server.proofs.serve.take_kept.Goals as goal
 

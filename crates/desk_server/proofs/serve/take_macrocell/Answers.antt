@@ -1,7 +1,6 @@
-use Rattle.std.proofs.Common.{refl}
+use Rattle.desk_server.proofs.Names.{of_macrocell, refl}
 use Rattle.multistate_macrocell.specs.Pattern.{pattern_of}
 use Rattle.macrocell_lines.specs.declared.fault.McFault.TheVariants.{NoMemory}
-use Rattle.desk_server.specs.Faults.{of_macrocell}
 use Rattle.desk_server.proofs.Replies.{gives-refused}
 use Rattle.desk_server.proofs.serve.take_macrocell.Goals as goal
 

@@ -1,7 +1,6 @@
-use Rattle.std.proofs.Common.{refl}
+use Rattle.desk_server.proofs.Names.{of_pattern, refl}
 use Rattle.multistate_rle.specs.Pattern.{pattern_of}
 use Rattle.multistate_rle.specs.declared.fault.RleFault.TheVariants.{NoMemory}
-use Rattle.desk_server.specs.Faults.{of_pattern}
 use Rattle.desk_server.proofs.Replies.{gives-refused}
 use Rattle.desk_server.proofs.serve.take_rle.Goals as goal
 

@@ -1,8 +1,6 @@
-use Rattle.std.proofs.Common.{refl, rules}
+use Rattle.desk_server.proofs.Names.{Memory, of_rule, refl, rules}
 use Rattle.rule_file.specs.declared.fault.RuleFault.TheVariants.{NoMemory}
 use Rattle.rule_tree.specs.Rule.{rule_of}
-use Rattle.desk_server.specs.Shortage.{Memory}
-use Rattle.desk_server.specs.Faults.{of_rule}
 use Rattle.desk_server.proofs.Replies.{gives-refused}
 use Rattle.desk_server.proofs.serve.take_rule.Goals as goal
 

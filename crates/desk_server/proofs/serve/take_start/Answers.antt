@@ -1,7 +1,4 @@
-use Rattle.std.proofs.Common.{subst, rules}
-use Rattle.desk_server.specs.Shortage.{Memory}
-use Rattle.desk_server.specs.Answer.{started}
-use Rattle.desk_server.specs.Served.{RepliesOrNoMemory}
+use Rattle.desk_server.proofs.Names.{Memory, RepliesOrNoMemory, rules, started, subst}
 use Rattle.desk_server.proofs.serve.take_start.Goals as goal
 
 pub returns-in-Ok-clause-answer : goal.returns-in-Ok-clause-answer

@@ -1,5 +1,4 @@
-use Rattle.std.proofs.Common.{refl}
-use Rattle.desk_server.specs.Shortage.{NoShortage}
+use Rattle.desk_server.proofs.Names.{NoShortage, refl}
 use Rattle.desk_server.proofs.Jobs.{carries_served}
 use Rattle.desk_server.proofs.serve.work.Goals as goal
 

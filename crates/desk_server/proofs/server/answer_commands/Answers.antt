@@ -1,15 +1,10 @@
-use Rattle.std.proofs.Common.{◌≡◌, ◌≢◌, ◌∙◌, ◌+◌, ap, refl, rules, subst, sym}
+use Rattle.desk_server.proofs.Names.{Works, ap, ends, moment, opening_session, refl, rules, session, subst, sym, wrote_is_err, wrote_is_ok, ◌+◌, ◌∙◌, ◌≡◌, ◌≢◌}
 use Rattle.script_lines.specs.Input.{FailsOrFull}
-use Rattle.script_lines.proofs.Shared.Told.{wrote_is_err, wrote_is_ok}
-use Rattle.desk_server.specs.Answer.{opening_session}
-use Rattle.desk_server.specs.Ending.{Works}
-use Rattle.desk_server.specs.Served.{session}
-use Rattle.desk_server.specs.Told.{ends}
-use Rattle.desk_server.specs.Watch.{moment}
 use Rattle.desk_server.specs.declared.reply.Reply.TheVariants as reply
 use Rattle.desk_server.proofs.Jobs.{carries_further}
 use Rattle.desk_server.proofs.Noted.{notes_join, notes_none, notes_one, notes_same}
-use Rattle.desk_server.proofs.Rounds.{answers_none, answers_answers, answers_finishes, answers_stops, answers_breaks, begun, begun_watched, completed, stops_front, served, goes_on_silent, done_silent, goes_on_told, done_last, done_bye, stops_telling, works_then, opens, bye-ends, goes-on}
+use Rattle.desk_server.proofs.Rounds.{answers_none, answers_answers, answers_finishes, answers_stops, answers_breaks, begun, begun_watched, completed, stops_front, served}
+use Rattle.desk_server.proofs.Rounds.{goes_on_silent, done_silent, goes_on_told, done_last, done_bye, stops_telling, works_then, opens, bye-ends, goes-on}
 use Rattle.desk_server.proofs.server.answer_commands.Goals as goal
 
 pub script-init : goal.script-init

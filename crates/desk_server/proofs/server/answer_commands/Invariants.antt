@@ -1,10 +1,4 @@
-use Rattle.std.proofs.Common.{◌+◌}
-use Rattle.desk_server.specs.Answer.{opening_session}
-use Rattle.desk_server.specs.Ending.{Works}
-use Rattle.desk_server.specs.Served.{session}
-use Rattle.desk_server.specs.Jobs.{CarriesOn}
-use Rattle.desk_server.specs.Run.{Answers}
-use Rattle.desk_server.specs.Watch.{NotesEach, moment}
+use Rattle.desk_server.proofs.Names.{Answers, CarriesOn, NotesEach, Works, moment, opening_session, session, ◌+◌}
 use Rattle.desk_server.proofs.server.answer_commands.Given as goal
 
 abbrev pub invariant-script : goal.invariant-script

@@ -1,5 +1,4 @@
-use Rattle.std.proofs.Common.{ap, refl}
-use Rattle.dependency_book.specs.BookState.{BookState, opened}
+use Rattle.desk_server.proofs.Names.{BookState, ap, opened, refl}
 use Rattle.desk_server.proofs.Jobs.{carries_first}
 use Rattle.desk_server.proofs.Rounds.{none_begun}
 use Rattle.desk_server.proofs.server.run_seen.Goals as goal

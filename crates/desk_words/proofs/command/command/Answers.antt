@@ -1,7 +1,5 @@
-use Rattle.std.proofs.Common.{rules, ◌≡◌}
+use Rattle.desk_words.proofs.Names.{AlwaysGives, app_of, desk, rules, ◌≡◌}
 use Rattle.std.proofs.lemmas.Result.{IfOk-weaker}
-use Rattle.clap.specs.Words.{app_of}
-use Rattle.desk_words.specs.Command.{AlwaysGives, desk}
 use Rattle.desk_words.proofs.Parsed.{always_gives, app_is}
 use Rattle.desk_words.proofs.command.command.Goals as goal
 

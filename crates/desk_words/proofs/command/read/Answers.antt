@@ -1,6 +1,4 @@
-use Rattle.std.proofs.Common.{Ok, rules, map}
-use Rattle.clap.specs.Words.{found_of}
-use Rattle.desk_words.specs.declared.settings.Setting.TheVariants.{Workers, Facts, Squares}
+use Rattle.desk_words.proofs.Names.{Facts, Ok, Squares, Workers, found_of, map, rules}
 use Rattle.desk_words.proofs.Asked.{asked_reads}
 use Rattle.desk_words.proofs.Chosen.{chooses_for, says_as}
 use Rattle.desk_words.proofs.Requests.{help_answers, plain_refused}

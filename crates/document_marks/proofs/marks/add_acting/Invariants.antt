@@ -1,6 +1,4 @@
-use Rattle.std.proofs.Common.{◌≡◌, ◌+◌, ◌++◌, length, map, vec_len}
-use Rattle.std.specs.Prelude.{vec_capacity}
-use Rattle.desk_events.specs.Marks.{mark_at}
+use Rattle.document_marks.proofs.Names.{length, map, mark_at, vec_capacity, vec_len, ◌++◌, ◌+◌, ◌≡◌}
 use Rattle.document_marks.proofs.marks.add_acting.Given as goal
 
 abbrev pub invariant-loop-generation : goal.invariant-loop-generation

@@ -1,6 +1,4 @@
-use Rattle.std.proofs.Common.{◌≡◌, ◌+◌, ◌++◌, take, map, vec_len}
-use Rattle.std.specs.Prelude.{vec_capacity}
-use Rattle.desk_events.specs.Marks.{bookmark_mark}
+use Rattle.document_marks.proofs.Names.{bookmark_mark, map, take, vec_capacity, vec_len, ◌++◌, ◌+◌, ◌≡◌}
 use Rattle.document_marks.proofs.marks.add_bookmarks.Given as goal
 
 abbrev pub invariant-loop-bookmark : goal.invariant-loop-bookmark

@@ -1,6 +1,4 @@
-use Rattle.std.proofs.Common.{◌≡◌, ◌+◌, ◌*◌, ◌++◌, take, vec_len}
-use Rattle.std.specs.Prelude.{flat_map, vec_capacity}
-use Rattle.desk_events.specs.Marks.{branch_marks}
+use Rattle.document_marks.proofs.Names.{branch_marks, flat_map, take, vec_capacity, vec_len, ◌*◌, ◌++◌, ◌+◌, ◌≡◌}
 use Rattle.document_marks.proofs.marks.add_branches.Given as goal
 
 abbrev pub invariant-loop-branch : goal.invariant-loop-branch

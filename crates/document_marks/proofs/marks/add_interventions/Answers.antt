@@ -1,10 +1,5 @@
-use Rattle.std.proofs.Common.{rules, ◌∙◌, ◌++◌, [], ◌∷◌, length, take, map, flat_map, refl, sym, ap, ap₂, arith}
-use Rattle.std.proofs.lemmas.List.{append-nil, flat_map_more, length-append, length-map, take_more}
-use Rattle.std.proofs.lemmas.List.Elements.{All-replicate}
-use Rattle.std.proofs.lemmas.List.Folds.{length-flat_map-take}
-use Rattle.schedule.specs.Acts.{generations_to}
-use Rattle.schedule.specs.Branches.{reach}
-use Rattle.desk_events.specs.Marks.{acting_marks, mark_at}
+use Rattle.document_marks.proofs.Names.{All-replicate, [], acting_marks, ap, append-nil, ap₂, arith, flat_map, flat_map_more, generations_to, length, length-append, length-flat_map-take, length-map, map, mark_at, reach, refl, rules, sym}
+use Rattle.document_marks.proofs.Names.{take, take_more, ◌++◌, ◌∙◌, ◌∷◌}
 use Rattle.document_marks.proofs.marks.add_interventions.Goals as goal
 
 pub loop-intervention-init : goal.loop-intervention-init

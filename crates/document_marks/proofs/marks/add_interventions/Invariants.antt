@@ -1,8 +1,4 @@
-use Rattle.std.proofs.Common.{◌≡◌, ◌++◌, take}
-use Rattle.std.specs.Prelude.{flat_map, vec_capacity}
-use Rattle.std.specs.List.{All}
-use Rattle.schedule.specs.Branches.{reach}
-use Rattle.desk_events.specs.Marks.{acting_marks}
+use Rattle.document_marks.proofs.Names.{All, acting_marks, flat_map, reach, take, vec_capacity, ◌++◌, ◌≡◌}
 use Rattle.document_marks.proofs.marks.add_interventions.Given as goal
 
 abbrev pub invariant-loop-intervention : goal.invariant-loop-intervention

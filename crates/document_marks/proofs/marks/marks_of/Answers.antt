@@ -1,10 +1,4 @@
-use Rattle.std.proofs.Common.{rules, ◌∙◌, ◌++◌, not, length, map, ap, ap₂, sym, subst, arith}
-use Rattle.std.specs.List.Sorted.{IsPermutation}
-use Rattle.std.specs.Prelude.{flat_map}
-use Rattle.std.proofs.lemmas.Fn.{dedup_same, filter_same}
-use Rattle.schedule.specs.Branches.{reach}
-use Rattle.document_marks.specs.AllMarks.{AreMarksOf, but_start}
-use Rattle.desk_events.specs.Marks.{acting_marks, bookmark_mark, branch_marks, is_start}
+use Rattle.document_marks.proofs.Names.{AreMarksOf, IsPermutation, acting_marks, ap, ap₂, arith, bookmark_mark, branch_marks, but_start, dedup_same, filter_same, flat_map, is_start, length, map, not, reach, rules, subst, sym, ◌++◌, ◌∙◌}
 use Rattle.document_marks.proofs.Marked.{AreMarksOf-once, few_acting, same_rank}
 use Rattle.document_marks.proofs.marks.marks_of.Goals as goal
 

@@ -1,6 +1,4 @@
-use Rattle.std.proofs.Common.{rules}
-use Rattle.std.proofs.lemmas.Fn.{always_returns_same}
-use Rattle.document_marks.specs.AllMarks.{mark_rank}
+use Rattle.document_marks.proofs.Names.{always_returns_same, mark_rank, rules}
 use Rattle.document_marks.proofs.marks.sort.Goals as goal
 
 pub returns-in-Ok-clause-sorted : goal.returns-in-Ok-clause-sorted

@@ -1,5 +1,4 @@
-use Rattle.std.proofs.Common.{ap, length, arith}
-use Rattle.schedule.specs.Asked.{asked_of}
+use Rattle.document_marks.proofs.Names.{ap, arith, asked_of, length}
 use Rattle.document_marks.proofs.Shared.Grown.{is_within}
 use Rattle.document_marks.proofs.most.marks_at_most_after.Goals as goal
 

@@ -1,9 +1,7 @@
-use Rattle.std.proofs.Common.{◌+◌, arith, ℕ}
-use Rattle.square_table.specs.Squares.{first_number}
-use Rattle.hash_engine.specs.Asked.{is_four, is_put, picked, places_of_four, places_put}
+use Rattle.hash_engine.proofs.Names.{arith, first_number, is_four, ℕ, ◌+◌}
+use Rattle.hash_engine.specs.Asked.{is_put, picked, places_of_four, places_put}
 use Rattle.hash_engine.proofs.Picked.{picked-next}
 use Rattle.hash_engine.proofs.counts.count_squares.Goals as goal
-use Rattle.hash_engine.proofs.counts.count_squares.Goals.{then-is_four+then-noted-gt0, then-is_four+else-noted-gt0, else-is_four}
 
 pub loop-place-init : goal.loop-place-init
 unfolding picked

@@ -1,6 +1,4 @@
-use Rattle.std.proofs.Common.{◌≡◌, ◌+◌, ◌≤◌, length}
-use Rattle.square_table.specs.Squares.{first_number}
-use Rattle.hash_engine.specs.Asked.{is_four, is_put, picked}
+use Rattle.hash_engine.proofs.Names.{first_number, is_four, is_put, length, picked, ◌+◌, ◌≡◌, ◌≤◌}
 use Rattle.hash_engine.proofs.counts.count_squares.Given as goal
 
 abbrev pub invariant-loop-place : goal.invariant-loop-place

@@ -1,9 +1,4 @@
-use Rattle.std.proofs.Common.{◌∙◌, ◌<◌, sym, subst, lit<, arith}
-use Rattle.std.specs.Prelude.{Contains}
-use Rattle.std.proofs.lemmas.Result.{IfOk-weaker}
-use Rattle.hash_life.proofs.Shared.InTwo.{Puts-itself}
-use Rattle.hash_life.proofs.Shared.Put.{Puts-last}
-use Rattle.hash_engine.specs.Standing.{StandsFor}
+use Rattle.hash_engine.proofs.Names.{Contains, IfOk-weaker, Puts-itself, Puts-last, StandsFor, arith, lit<, subst, sym, ◌<◌, ◌∙◌}
 use Rattle.hash_engine.proofs.Finding.{same_rule}
 use Rattle.hash_engine.proofs.ByBlocks.{Keeps-way, result_none, result_some, keeps_block}
 use Rattle.hash_engine.proofs.eight.forward.Goals as goal

@@ -1,6 +1,4 @@
-use Rattle.std.proofs.Common.{subst, lit<}
-use Rattle.hash_life.proofs.Shared.InTwo.{Puts-itself}
-use Rattle.hash_engine.specs.Standing.{StandsFor}
+use Rattle.hash_engine.proofs.Names.{Puts-itself, StandsFor, lit<, subst}
 use Rattle.hash_engine.proofs.ByBlocks.{result_some, keeps_block, known_block}
 use Rattle.hash_engine.proofs.eight.put.Goals as goal
 

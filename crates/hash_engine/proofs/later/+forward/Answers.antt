@@ -1,9 +1,9 @@
-use Rattle.std.proofs.Common.{◌<◌, ◌∙◌, sym, arith, rules}
-use Rattle.square_table.proofs.Shared.Growth.{IsNumber-grows}
+use Rattle.hash_engine.proofs.Names.{IsNumber-grows, arith, rules, sym, ◌<◌, ◌∙◌}
 use Rattle.hash_engine.proofs.Standing.{above, within, StandsFor-itself}
 use Rattle.hash_engine.proofs.Finding.{Keeps-middle, Keeps-noted, IsFound-none, found_still, asks_still, Asks-grown}
 use Rattle.hash_engine.proofs.Making.{MakesFor-none, MakesFor-noted}
-use Rattle.hash_engine.proofs.Computing.{AreDone-all, FirstAreMade-all, turn_made, middles_can, middles_found, middles_keeps, turn_can, turn_keeps, turn_asks, turn_done, nine_keeps, nine_can, first_keeps, fours_keeps, fours_can, last_keeps, joined_keeps, joined_all}
+use Rattle.hash_engine.proofs.Computing.{AreDone-all, FirstAreMade-all, turn_made, middles_can, middles_found, middles_keeps, turn_can, turn_keeps, turn_asks}
+use Rattle.hash_engine.proofs.Computing.{turn_done, nine_keeps, nine_can, first_keeps, fours_keeps, fours_can, last_keeps, joined_keeps, joined_all}
 use Rattle.hash_engine.proofs.later.+forward.Goals as goal
 
 pub all_forward-forward-requires : goal.all_forward-forward-requires

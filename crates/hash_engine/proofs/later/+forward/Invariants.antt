@@ -1,5 +1,4 @@
-use Rattle.std.proofs.Common.{◌≡◌, ◌+◌, ◌*◌}
-use Rattle.hash_engine.specs.Search.{KeepsForAll, AsksForAll}
+use Rattle.hash_engine.proofs.Names.{AsksForAll, KeepsForAll, ◌*◌, ◌+◌, ◌≡◌}
 use Rattle.hash_engine.proofs.Computing.{AreDone, FirstAreMade}
 use Rattle.hash_engine.proofs.later.+forward.Given as goal
 

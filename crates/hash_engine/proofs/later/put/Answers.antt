@@ -1,15 +1,4 @@
-use Rattle.std.proofs.Common.{ℕ, ◌<◌, List, [], ◌∷◌, sym, subst, arith, rules}
-use Rattle.square_table.specs.Squares.{Table}
-use Rattle.square_table.specs.Made.{Adds}
-use Rattle.square_table.proofs.Shared.Growth.{IsNumber-grows}
-use Rattle.hash_life.specs.Result.{later}
-use Rattle.hash_life.specs.Makes.{Makes}
-use Rattle.hash_life.proofs.Shared.InTwo.{Puts-itself, result-later}
-use Rattle.hash_engine.specs.Found.{IsSameRule}
-use Rattle.hash_engine.specs.Standing.{StandsFor}
-use Rattle.hash_engine.specs.Memo.{IsRightMemo}
-use Rattle.hash_engine.specs.Search.{sought, KeepsOnWay, IsCounted}
-use Rattle.hash_engine.specs.declared.memo.Memo.{Memo}
+use Rattle.hash_engine.proofs.Names.{Adds, IsCounted, IsNumber-grows, IsRightMemo, IsSameRule, KeepsOnWay, List, Makes, Memo, Puts-itself, StandsFor, Table, [], arith, later, result-later, rules, sought, subst, sym, ℕ, ◌<◌, ◌∷◌}
 use Rattle.hash_engine.proofs.Standing.{above, within}
 use Rattle.hash_engine.proofs.Finding.{Keeps-noted, Keeps-adds, one_result, IsFound-put, IsPut-noted, Asks-put}
 use Rattle.hash_engine.proofs.Making.{MakesFor-put}

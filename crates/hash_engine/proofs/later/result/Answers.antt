@@ -1,9 +1,4 @@
-use Rattle.std.proofs.Common.{◌≡◌, ◌≤◌, ◌^◌, suc, ◌-◌, ◌++◌, ◌∙◌, ap, ap₂, sym, subst, arith, rules}
-use Rattle.worlds.specs.Square.{square_at}
-use Rattle.square_table.specs.Squares.{Table, level_of, square_in, cells_of}
-use Rattle.square_table.specs.Made.{AreAmong}
-use Rattle.hash_engine.specs.Memo.{HasNoFull}
-use Rattle.hash_engine.specs.Search.{IsCounted}
+use Rattle.hash_engine.proofs.Names.{AreAmong, HasNoFull, IsCounted, Table, ap, ap₂, arith, cells_of, level_of, rules, square_at, square_in, subst, suc, sym, ◌++◌, ◌-◌, ◌^◌, ◌∙◌, ◌≡◌, ◌≤◌}
 use Rattle.hash_engine.proofs.Finding.{CanSeek-root}
 use Rattle.hash_engine.proofs.Blocks.{put_blocks, asked_once, asked_without}
 use Rattle.hash_engine.proofs.later.result.Goals as goal

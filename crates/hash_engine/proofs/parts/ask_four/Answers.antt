@@ -1,5 +1,4 @@
-use Rattle.std.proofs.Common.{◌≡◌, ◌∙◌, ℕ, ◌<◌, [], ◌∷◌, sym, subst, rules}
-use Rattle.std.specs.Prelude.{All}
+use Rattle.hash_engine.proofs.Names.{All, [], rules, subst, sym, ℕ, ◌<◌, ◌∙◌, ◌∷◌, ◌≡◌}
 use Rattle.hash_life.specs.Puts.{IsBelow}
 use Rattle.hash_life.proofs.Shared.Nine.{All-nine}
 use Rattle.hash_engine.proofs.parts.ask_four.Goals as goal

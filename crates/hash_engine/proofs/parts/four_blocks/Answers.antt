@@ -1,6 +1,4 @@
-use Rattle.std.proofs.Common.{◌≡◌, ◌∙◌, sym, subst, length, rules}
-use Rattle.std.proofs.lemmas.List.{length-map}
-use Rattle.hash_engine.specs.Blocks.{AreBlocks, result_of}
+use Rattle.hash_engine.proofs.Names.{AreBlocks, length, length-map, result_of, rules, subst, sym, ◌∙◌, ◌≡◌}
 use Rattle.hash_engine.proofs.Standing.{overlap, corner_at, IsBlock-of, AreBlocks-nil, AreBlocks-cons}
 use Rattle.hash_engine.proofs.parts.four_blocks.Goals as goal
 

@@ -1,5 +1,4 @@
-use Rattle.std.proofs.Common.{rules}
-use Rattle.std.proofs.lemmas.Result.{IfOk-weaker}
+use Rattle.hash_engine.proofs.Names.{IfOk-weaker, rules}
 use Rattle.hash_engine.proofs.Standing.{overlap}
 use Rattle.hash_engine.proofs.parts.fours.Goals as goal
 

@@ -1,6 +1,4 @@
-use Rattle.std.proofs.Common.{sym, subst, suc}
-use Rattle.square_table.proofs.Shared.Growth.{Grows-same}
-use Rattle.hash_engine.specs.Standing.{StandForAll}
+use Rattle.hash_engine.proofs.Names.{Grows-same, StandForAll, subst, suc, sym}
 use Rattle.hash_engine.proofs.Standing.{◌⟫◌, StandsFor-joined, StandForAll-nil, StandForAll-cons, unchanged, unchanged_by, adds_four}
 use Rattle.hash_engine.proofs.parts.join_four.Goals as goal
 

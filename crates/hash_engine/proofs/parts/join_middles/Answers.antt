@@ -1,11 +1,4 @@
-use Rattle.std.proofs.Common.{◌∷◌, ap, map, sym, subst, suc, ◌∙◌}
-use Rattle.std.specs.Prelude.{Contains}
-use Rattle.std.proofs.lemmas.Result.{IfOk-weaker}
-use Rattle.square_table.proofs.Shared.Growth.{Grows-same}
-use Rattle.hash_life.specs.Result.{middle}
-use Rattle.hash_life.specs.Puts.{fours_of}
-use Rattle.hash_engine.specs.Standing.{StandsFor, StandForAll}
-use Rattle.hash_engine.specs.Adding.{square_of_four}
+use Rattle.hash_engine.proofs.Names.{Contains, Grows-same, IfOk-weaker, StandForAll, StandsFor, ap, fours_of, map, middle, square_of_four, subst, suc, sym, ◌∙◌, ◌∷◌}
 use Rattle.hash_engine.proofs.Standing.{◌⟫◌, StandsFor-joined, Adds-behind, first_listed, more_of, four_stand}
 use Rattle.hash_engine.proofs.parts.join_middles.Goals as goal
 

@@ -1,9 +1,4 @@
-use Rattle.std.proofs.Common.{[], ◌∷◌, sym, ap, subst}
-use Rattle.std.proofs.lemmas.Result.{IfOk-weaker}
-use Rattle.square_table.specs.Made.{Adds}
-use Rattle.hash_life.specs.Result.{later}
-use Rattle.hash_life.specs.Puts.{IsBelow}
-use Rattle.hash_engine.specs.Standing.{StandsFor}
+use Rattle.hash_engine.proofs.Names.{Adds, IfOk-weaker, IsBelow, StandsFor, [], ap, later, subst, sym, ◌∷◌}
 use Rattle.hash_engine.proofs.Standing.{kids_of}
 use Rattle.hash_engine.proofs.parts.later.Goals as goal
 

@@ -1,12 +1,5 @@
-use Rattle.std.proofs.Common.{◌≡◌, ℕ, ◌<◌, List, [], ◌∷◌, get_or, ◌∙◌, sym, ap, subst, rules}
-use Rattle.std.proofs.lemmas.Result.{IfOk-weaker}
-use Rattle.worlds.specs.Square.{four}
-use Rattle.square_table.specs.Squares.{IsNumber, AreNumbers, square_in, square_of, kids_at}
-use Rattle.square_table.specs.Made.{Adds}
-use Rattle.square_table.proofs.Shared.Growth.{Grows-same}
-use Rattle.hash_life.specs.Result.{later}
-use Rattle.hash_life.specs.Puts.{IsBelow}
-use Rattle.hash_engine.specs.Standing.{of_four, StandsFor}
+use Rattle.hash_engine.proofs.Names.{Adds, AreNumbers, Grows-same, IfOk-weaker, IsBelow, List, StandsFor, [], ap, four, get_or, kids_at, later, of_four, rules, square_of, subst, sym, ℕ, ◌<◌, ◌∙◌, ◌∷◌, ◌≡◌}
+use Rattle.square_table.specs.Squares.{IsNumber, square_in}
 use Rattle.hash_engine.proofs.Standing.{StandsFor-joined, Adds-made}
 use Rattle.hash_engine.proofs.parts.later_of.Goals as goal
 

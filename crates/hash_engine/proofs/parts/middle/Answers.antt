@@ -1,8 +1,4 @@
-use Rattle.std.proofs.Common.{suc, sym, ap, subst, ◌∙◌, [], ◌∷◌}
-use Rattle.std.proofs.lemmas.Result.{IfOk-weaker}
-use Rattle.square_table.specs.Made.{Adds}
-use Rattle.hash_life.specs.Result.{middle}
-use Rattle.hash_engine.specs.Standing.{StandsFor}
+use Rattle.hash_engine.proofs.Names.{Adds, IfOk-weaker, StandsFor, [], ap, middle, subst, suc, sym, ◌∙◌, ◌∷◌}
 use Rattle.hash_engine.proofs.Standing.{kids_of}
 use Rattle.hash_engine.proofs.parts.middle.Goals as goal
 

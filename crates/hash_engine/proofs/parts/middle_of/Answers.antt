@@ -1,9 +1,4 @@
-use Rattle.std.proofs.Common.{suc, sym, ap, subst, [], ◌∷◌}
-use Rattle.std.proofs.lemmas.Result.{IfOk-weaker}
-use Rattle.square_table.proofs.Shared.Growth.{Grows-same}
-use Rattle.square_table.specs.Made.{Adds}
-use Rattle.hash_life.specs.Result.{middle}
-use Rattle.hash_engine.specs.Standing.{StandsFor}
+use Rattle.hash_engine.proofs.Names.{Adds, Grows-same, IfOk-weaker, StandsFor, [], ap, middle, subst, suc, sym, ◌∷◌}
 use Rattle.hash_engine.proofs.Standing.{sixteen_of, StandsFor-joined, Adds-made}
 use Rattle.hash_engine.proofs.parts.middle_of.Goals as goal
 

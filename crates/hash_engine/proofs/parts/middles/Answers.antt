@@ -1,8 +1,4 @@
-use Rattle.std.proofs.Common.{◌≡◌, ◌∙◌, ℕ, ◌<◌, [], ◌∷◌, ap, map, length, sym, subst, lit<, rules}
-use Rattle.worlds.specs.Square.{one}
-use Rattle.square_table.specs.Squares.{square_of}
-use Rattle.hash_life.specs.Result.{middle}
-use Rattle.hash_life.specs.Puts.{fours_of}
+use Rattle.hash_engine.proofs.Names.{[], ap, fours_of, length, lit<, map, middle, one, rules, square_of, subst, sym, ℕ, ◌<◌, ◌∙◌, ◌∷◌, ◌≡◌}
 use Rattle.hash_engine.proofs.Standing.{kids_in, nine_at}
 use Rattle.hash_engine.proofs.parts.middles.Goals as goal
 

@@ -1,7 +1,4 @@
-use Rattle.std.proofs.Common.{suc, sym, ap, subst}
-use Rattle.square_table.proofs.Shared.Growth.{Grows-same}
-use Rattle.hash_life.specs.Puts.{nine_of}
-use Rattle.hash_engine.specs.Standing.{StandForAll}
+use Rattle.hash_engine.proofs.Names.{Grows-same, StandForAll, ap, nine_of, subst, suc, sym}
 use Rattle.hash_engine.proofs.Standing.{◌⟫◌, StandsFor-grows, StandsFor-joined, sixteen, StandForAll-nil, StandForAll-cons, unchanged, unchanged_by, adds_nine}
 use Rattle.hash_engine.proofs.parts.nine.Goals as goal
 

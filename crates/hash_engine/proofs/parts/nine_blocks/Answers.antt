@@ -1,6 +1,4 @@
-use Rattle.std.proofs.Common.{sym, ap, subst}
-use Rattle.hash_life.specs.Puts.{nine_of}
-use Rattle.hash_engine.specs.Blocks.{AreBlocks}
+use Rattle.hash_engine.proofs.Names.{AreBlocks, ap, nine_of, subst, sym}
 use Rattle.hash_engine.proofs.Standing.{sixteen, StandsFor-itself, IsBlock-of, AreBlocks-nil, AreBlocks-cons}
 use Rattle.hash_engine.proofs.parts.nine_blocks.Goals as goal
 

@@ -1,8 +1,6 @@
-use Rattle.std.proofs.Common.{◌≡◌, Some, vec_len}
-use Rattle.std.specs.Prelude.{All}
+use Rattle.job_pool.proofs.Names.{All, Some, Terms, vec_len, ◌≡◌}
 use Rattle.crossbeam_channel.specs.Claims.{view, IsSeatAt}
 use Rattle.crossbeam_channel.specs.Ends.{sends_on}
-use Rattle.job_pool.specs.declared.answer_rule.Terms.{Terms}
 use Rattle.job_pool.proofs.answers.queue_of.Given as goal
 
 abbrev pub invariant-senders : goal.invariant-senders

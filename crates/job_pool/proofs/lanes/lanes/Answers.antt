@@ -1,7 +1,5 @@
-use Rattle.std.proofs.Common.{◌≡◌, ◌∙◌, All, ap, arith, subst, sym}
+use Rattle.job_pool.proofs.Names.{All, Entries, Taking, ap, arith, new_taker, subst, sym, ◌∙◌, ◌≡◌}
 use Rattle.std.proofs.lemmas.List.Elements.{All-push}
-use Rattle.revision_jobs.specs.declared.entries.Entries.{Entries}
-use Rattle.job_queue.specs.Ends.{Taking, new_taker}
 use Rattle.job_pool.proofs.Pops.{popped}
 use Rattle.job_pool.proofs.lanes.lanes.Goals as goal
 

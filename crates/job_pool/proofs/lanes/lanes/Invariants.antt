@@ -1,7 +1,4 @@
-use Rattle.std.proofs.Common.{◌≡◌, ◌+◌, vec_len}
-use Rattle.std.specs.Prelude.{All}
-use Rattle.revision_jobs.specs.declared.entries.Entries.{Entries}
-use Rattle.job_queue.specs.Ends.{Taking, new_taker}
+use Rattle.job_pool.proofs.Names.{All, Entries, Taking, new_taker, vec_len, ◌+◌, ◌≡◌}
 use Rattle.job_pool.proofs.lanes.lanes.Given as goal
 
 abbrev pub invariant-workers : goal.invariant-workers

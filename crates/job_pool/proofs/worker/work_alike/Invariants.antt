@@ -1,7 +1,4 @@
-use Rattle.std.proofs.Common.{◌≡◌}
-use Rattle.std.specs.Prelude.{IfSome}
-use Rattle.revision_jobs.specs.Entries.{IsOf}
-use Rattle.job_pool.specs.Home.{terms_of}
+use Rattle.job_pool.proofs.Names.{IfSome, IsOf, terms_of, ◌≡◌}
 use Rattle.job_pool.proofs.worker.work_alike.Given as goal
 
 abbrev pub invariant-loop : goal.invariant-loop

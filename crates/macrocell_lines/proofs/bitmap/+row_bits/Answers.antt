@@ -1,5 +1,4 @@
-use Rattle.std.proofs.Common.{◌≤◌, ◌-◌, length, take, drop, arith}
-use Rattle.std.proofs.lemmas.Grind.{common_steps}
+use Rattle.macrocell_lines.proofs.Names.{arith, common_steps, drop, length, take, ◌-◌, ◌≤◌}
 use Rattle.macrocell_lines.proofs.Rows.{byte-below, row_bits-small}
 use Rattle.macrocell_lines.proofs.bitmap.+row_bits.Goals as goal
 

@@ -1,7 +1,4 @@
-use Rattle.std.proofs.Common.{◌≡◌, ◌∙◌, ◌-◌, sym, ap, Some, take, refl, arith, rules}
-use Rattle.std.proofs.lemmas.Grind.{common_steps}
-use Rattle.std.specs.Option.{option_map}
-use Rattle.macrocell_lines.specs.Bitmaps.{row_of, rows_of}
+use Rattle.macrocell_lines.proofs.Names.{Some, ap, arith, common_steps, option_map, refl, row_of, rows_of, rules, sym, take, ◌-◌, ◌∙◌, ◌≡◌}
 use Rattle.macrocell_lines.proofs.Rows.{dead-more, drawn-all, drawn-more, small-dead, small-set, with_front}
 use Rattle.macrocell_lines.proofs.bitmap.read_bitmap.Goals as goal
 

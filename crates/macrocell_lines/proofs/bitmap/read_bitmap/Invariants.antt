@@ -1,7 +1,4 @@
-use Rattle.std.proofs.Common.{◌≡◌, ℕ, ◌<◌, ◌-◌, ◌≤◌, length, take, drop, replicate}
-use Rattle.std.specs.Prelude.{slice_index}
-use Rattle.macrocell_lines.specs.Bitmaps.{rows_of}
-use Rattle.macrocell_lines.specs.Pieces.{pieces}
+use Rattle.macrocell_lines.proofs.Names.{drop, length, pieces, replicate, rows_of, slice_index, take, ℕ, ◌-◌, ◌<◌, ◌≡◌, ◌≤◌}
 use Rattle.macrocell_lines.proofs.Rows.{with_front}
 use Rattle.macrocell_lines.proofs.bitmap.read_bitmap.Given as goal
 

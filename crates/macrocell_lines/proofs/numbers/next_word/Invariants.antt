@@ -1,5 +1,4 @@
-use Rattle.std.proofs.Common.{◌≡◌, length, filter}
-use Rattle.macrocell_lines.specs.Pieces.{is_word}
+use Rattle.macrocell_lines.proofs.Names.{filter, is_word, length, ◌≡◌}
 use Rattle.macrocell_lines.proofs.numbers.next_word.Given as goal
 
 abbrev pub invariant-loop-piece : goal.invariant-loop-piece

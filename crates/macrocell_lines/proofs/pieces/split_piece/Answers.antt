@@ -1,5 +1,4 @@
-use Rattle.std.proofs.Common.{sym, ◌∙◌, ◌==◌, arith}
-use Rattle.std.proofs.lemmas.Grind.{common_steps}
+use Rattle.macrocell_lines.proofs.Names.{arith, common_steps, sym, ◌==◌, ◌∙◌}
 use Rattle.text_lines.proofs.Shared.Pieces.{split-some, split-none}
 use Rattle.macrocell_lines.proofs.pieces.split_piece.Goals as goal
 

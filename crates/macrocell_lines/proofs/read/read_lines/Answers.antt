@@ -1,9 +1,5 @@
-use Rattle.std.proofs.Common.{◌≡◌, ◌∙◌, ◌+◌, ◌-◌, ◌∷◌, Ok, Err, drop, sym, ap, arith, rules}
-use Rattle.std.proofs.lemmas.Grind.{common_steps}
+use Rattle.macrocell_lines.proofs.Names.{Err, NoMemory, Ok, after_line, ap, arith, common_steps, drop, rules, said_of, sym, ◌+◌, ◌-◌, ◌∙◌, ◌∷◌, ◌≡◌}
 use Rattle.std.proofs.lemmas.Result.{err_from_is_err_and}
-use Rattle.macrocell_lines.specs.declared.fault.McFault.TheVariants.{NoMemory}
-use Rattle.macrocell_lines.specs.Kept.{said_of}
-use Rattle.macrocell_lines.specs.MacrocellText.{after_line}
 use Rattle.macrocell_lines.proofs.PassedLines.{left-more, passed-more, wants-there}
 use Rattle.macrocell_lines.proofs.read.read_lines.Goals as goal
 

@@ -1,7 +1,4 @@
-use Rattle.std.proofs.Common.{◌≡◌, ◌+◌, ◌-◌, ◌<◌, ◌≤◌, ◌^◌, length, take, drop, Ok}
-use Rattle.macrocell_lines.specs.Kept.{said_of}
-use Rattle.macrocell_lines.specs.MacrocellText.{after_lines, nothing_said}
-use Rattle.macrocell_lines.specs.Nodes.{AreNodes}
+use Rattle.macrocell_lines.proofs.Names.{AreNodes, Ok, after_lines, drop, length, nothing_said, said_of, take, ◌+◌, ◌-◌, ◌<◌, ◌^◌, ◌≡◌, ◌≤◌}
 use Rattle.macrocell_lines.proofs.read.read_lines.Given as goal
 
 abbrev pub invariant-loop-line : goal.invariant-loop-line

@@ -1,8 +1,5 @@
-use Rattle.std.proofs.Common.{◌≡◌, ◌∷◌, true, rules, sym, subst}
-use Rattle.std.specs.Prelude.{codes, nat_eq}
-use Rattle.std.specs.List.{starts_with}
+use Rattle.macrocell_lines.proofs.Names.{BeginsWithNodes, codes, nat_eq, rules, said_by, starts_with, subst, sym, true, ◌∷◌, ◌≡◌}
 use Rattle.text_lines.specs.Lines.{says}
-use Rattle.macrocell_lines.specs.MacrocellText.{BeginsWithNodes, said_by}
 use Rattle.macrocell_lines.proofs.PassedLines.{wants-behind}
 use Rattle.macrocell_lines.proofs.read.read_macrocell.Goals as goal
 

@@ -1,5 +1,4 @@
-use Rattle.std.proofs.Common.{◌<◌, length, sym, ap, subst, arith}
-use Rattle.macrocell_lines.specs.Nodes.{AreNodes, Follows}
+use Rattle.macrocell_lines.proofs.Names.{AreNodes, Follows, ap, arith, length, subst, sym, ◌<◌}
 use Rattle.macrocell_lines.proofs.Growing.{nodes-push}
 use Rattle.macrocell_lines.proofs.read.take_line.Goals as goal
 

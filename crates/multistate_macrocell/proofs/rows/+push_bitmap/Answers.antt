@@ -1,6 +1,4 @@
-use Rattle.std.proofs.Common.{◌≡◌, ◌-◌, ◌≤◌, suc, sym, arith}
-use Rattle.std.proofs.lemmas.Result.{IfOk-weaker}
-use Rattle.multistate_macrocell.specs.Quadtree.{drawn}
+use Rattle.multistate_macrocell.proofs.Names.{IfOk-weaker, arith, drawn, suc, sym, ◌-◌, ◌≡◌, ◌≤◌}
 use Rattle.multistate_macrocell.proofs.Adding.{adds-cell, adds-four, four-row}
 use Rattle.multistate_macrocell.proofs.Drawing.{cell-small, drawn-cell, drawn-four, halves}
 use Rattle.multistate_macrocell.proofs.rows.+push_bitmap.Goals as goal

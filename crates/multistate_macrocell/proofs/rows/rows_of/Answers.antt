@@ -1,7 +1,4 @@
-use Rattle.std.proofs.Common.{◌≡◌, ◌∷◌, [], length, get_or, Some, add-one, subst, arith, rules}
-use Rattle.std.specs.Prelude.{slice_get}
-use Rattle.std.proofs.lemmas.Option.{slice_get-get_or}
-use Rattle.macrocell_lines.specs.declared.node.Node.TheVariants.{Cells}
+use Rattle.multistate_macrocell.proofs.Names.{Cells, Some, [], add-one, arith, get_or, length, rules, slice_get, slice_get-get_or, subst, ◌∷◌, ◌≡◌}
 use Rattle.multistate_macrocell.proofs.Standing.{Stand, next-follows, stand-more, stand-none, stand-world}
 use Rattle.multistate_macrocell.proofs.rows.rows_of.Goals as goal
 

@@ -1,6 +1,4 @@
-use Rattle.std.proofs.Common.{◌≡◌, ◌∙◌, ◌++◌, ◌∷◌, [], List, ℕ, decimal, ap}
-use Rattle.std.proofs.lemmas.Result.{on_ok_weaker}
-use Rattle.plane_core.specs.Rows.{kid}
+use Rattle.multistate_macrocell.proofs.Names.{List, [], ap, decimal, kid, on_ok_weaker, ℕ, ◌++◌, ◌∙◌, ◌∷◌, ◌≡◌}
 use Rattle.multistate_macrocell.proofs.Written.{added-on_ok, row_line-joined}
 use Rattle.multistate_macrocell.proofs.write.push_row.Goals as goal
 

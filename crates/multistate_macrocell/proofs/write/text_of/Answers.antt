@@ -1,7 +1,5 @@
-use Rattle.std.proofs.Common.{◌≡◌, ◌∙◌, ◌++◌, List, length, take, ap, arith}
+use Rattle.multistate_macrocell.proofs.Names.{List, SquareRow, ap, arith, heading_text, length, row_lines, take, ◌++◌, ◌∙◌, ◌≡◌}
 use Rattle.std.proofs.Math.Seq.{take-length}
-use Rattle.plane_core.specs.declared.row.SquareRow.{SquareRow}
-use Rattle.multistate_macrocell.specs.Lines.{heading_text, row_lines}
 use Rattle.multistate_macrocell.proofs.Written.{text-rows}
 use Rattle.multistate_macrocell.proofs.write.text_of.Goals as goal
 

@@ -1,5 +1,4 @@
-use Rattle.std.proofs.Common.{◌≡◌, ◌++◌, take}
-use Rattle.multistate_macrocell.specs.Lines.{heading_text, row_lines}
+use Rattle.multistate_macrocell.proofs.Names.{heading_text, row_lines, take, ◌++◌, ◌≡◌}
 use Rattle.multistate_macrocell.proofs.write.text_of.Given as goal
 
 abbrev pub invariant-loop-row : goal.invariant-loop-row

@@ -1,10 +1,4 @@
-use Rattle.std.proofs.Common.{◌≡◌, ◌∙◌, List, ap, sym}
-use Rattle.std.proofs.lemmas.Result.{IfOk-weaker}
-use Rattle.plane_core.specs.declared.row.SquareRow.{SquareRow}
-use Rattle.macrocell_lines.specs.WrittenText.{written_text}
-use Rattle.multistate_macrocell.specs.PatternText.{nodes_of}
-use Rattle.plane_core.specs.WorldRows.{rows_of}
-use Rattle.plane_core.proofs.Shared.WorldRows.{rows_of-squares}
+use Rattle.multistate_macrocell.proofs.Names.{IfOk-weaker, List, SquareRow, ap, nodes_of, rows_of, rows_of-squares, sym, written_text, ◌∙◌, ◌≡◌}
 use Rattle.multistate_macrocell.proofs.write.write_mc.Goals as goal
 
 pub returns : goal.returns

@@ -1,8 +1,6 @@
-use Rattle.std.proofs.Common.{rules, tests}
+use Rattle.multistate_rle.proofs.Names.{after_part, is_blank, rules, tests}
 use Rattle.std.proofs.lemmas.Iterator.Consumers.{fold_from_yields_List}
 use Rattle.std.proofs.lemmas.Iterator.Splits.{YieldsList-from_slice_split}
-use Rattle.text_lines.specs.Blanks.{is_blank}
-use Rattle.multistate_rle.specs.Comments.{after_part}
 use Rattle.multistate_rle.proofs.comment.after_parts.Goals as goal
 
 pub returns : goal.returns

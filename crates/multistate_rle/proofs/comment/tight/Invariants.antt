@@ -1,5 +1,4 @@
-use Rattle.std.proofs.Common.{◌≡◌, ◌++◌, true, length}
-use Rattle.multistate_rle.specs.Comments.{tight}
+use Rattle.multistate_rle.proofs.Names.{length, tight, true, ◌++◌, ◌≡◌}
 use Rattle.multistate_rle.proofs.comment.tight.Given as goal
 
 abbrev pub invariant-loop-left : goal.invariant-loop-left

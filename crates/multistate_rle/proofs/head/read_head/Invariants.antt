@@ -1,8 +1,4 @@
-use Rattle.std.proofs.Common.{◌≡◌, ◌≤◌, ◌-◌, None, true, drop, length, IfSome}
-use Rattle.text_lines.specs.Lines.{lines}
-use Rattle.multistate_rle.specs.declared.comment.Origin.{Origin}
-use Rattle.multistate_rle.specs.Comments.{plain_origin}
-use Rattle.multistate_rle.specs.Head.{head_from, is_placed}
+use Rattle.multistate_rle.proofs.Names.{IfSome, None, Origin, drop, head_from, is_placed, length, lines, plain_origin, true, ◌-◌, ◌≡◌, ◌≤◌}
 use Rattle.multistate_rle.proofs.head.read_head.Given as goal
 
 abbrev pub invariant-loop-len : goal.invariant-loop-len

@@ -1,14 +1,5 @@
-use Rattle.std.proofs.Common.{◌≡◌, ◌≢◌, ℕ, ◌+◌, ◌<◌, ◌≤◌, ◌==◌, true, false, not, cond, List, [], ◌∷◌, ◌++◌, length, get_or, take, drop, Some, None, position, nat_lt, sym, ap, ◌∙◌, refl, arith, rules, tests}
-use Rattle.std.specs.List.{position_or_len}
-use Rattle.std.proofs.lemmas.Bool.{eqb-true}
-use Rattle.std.proofs.lemmas.Grind.{common_steps}
-use Rattle.std.proofs.lemmas.List.{take_more}
-use Rattle.std.proofs.lemmas.List.Sums.{passes_at_first}
-use Rattle.std.proofs.Math.Seq.{take-length, drop-length}
-use Rattle.basics.proofs.Shared.Tests.{some_place, no_place}
-use Rattle.text_lines.specs.Blanks.{trim}
-use Rattle.text_lines.specs.Lines.{lines, line_len, strip_carriage_return}
-use Rattle.text_lines.specs.Lines.End.{Ended}
+use Rattle.multistate_rle.proofs.Names.{Ended, List, None, Some, [], ap, arith, common_steps, cond, drop, drop-length, eqb-true, false, get_or, length, line_len, lines, nat_lt, no_place, not, passes_at_first, position, position_or_len}
+use Rattle.multistate_rle.proofs.Names.{refl, rules, some_place, strip_carriage_return, sym, take, take-length, take_more, tests, trim, true, ℕ, ◌++◌, ◌+◌, ◌<◌, ◌==◌, ◌∙◌, ◌∷◌, ◌≡◌, ◌≢◌, ◌≤◌}
 use Rattle.text_lines.proofs.Shared.FirstLine.{line_len-le, lines_from-full, lines_from-last}
 use Rattle.multistate_rle.proofs.line.first_line.Goals as goal
 

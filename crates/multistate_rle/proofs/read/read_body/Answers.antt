@@ -1,6 +1,4 @@
-use Rattle.std.proofs.Common.{◌≡◌, ◌∙◌, ◌∷◌, [], ℕ, Ok, inr, ap, arith, rules}
-use Rattle.multistate_rle.specs.Drawing.{world_drawn}
-use Rattle.multistate_rle.specs.Pattern.{drawn_by, runs_from}
+use Rattle.multistate_rle.proofs.Names.{Ok, [], ap, arith, drawn_by, inr, rules, runs_from, world_drawn, ℕ, ◌∙◌, ◌∷◌, ◌≡◌}
 use Rattle.multistate_rle.proofs.Strips.{IsPlaced}
 use Rattle.multistate_rle.proofs.Drawings.{IsEnd, begun, begun-digit, begun-rows, begun-cells, begun-end, drawn_on}
 use Rattle.multistate_rle.proofs.read.read_body.Goals as goal

@@ -1,6 +1,4 @@
-use Rattle.std.proofs.Common.{◌≡◌, ◌++◌, OnOk, rules, append_assoc}
-use Rattle.std.specs.Fmt.{signed_decimal}
-use Rattle.std.proofs.lemmas.Result.{IfOk-equal}
+use Rattle.multistate_rle.proofs.Names.{IfOk-equal, OnOk, append_assoc, rules, signed_decimal, ◌++◌, ◌≡◌}
 use Rattle.multistate_rle.proofs.written_head.push_place.Goals as goal
 
 pub returns : goal.returns

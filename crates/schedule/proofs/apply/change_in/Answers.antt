@@ -1,6 +1,4 @@
-use Rattle.std.proofs.Common.{◌∙◌, sym}
-use Rattle.schedule.specs.Ids.{intervention_id}
-use Rattle.schedule.specs.Change.{acting}
+use Rattle.schedule.proofs.Names.{acting, intervention_id, sym, ◌∙◌}
 use Rattle.schedule.proofs.Shared.Ids.{changed_at-Some, changed_at-None}
 use Rattle.schedule.proofs.apply.change_in.Goals as goal
 

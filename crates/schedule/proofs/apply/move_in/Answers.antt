@@ -1,8 +1,5 @@
-use Rattle.std.proofs.Common.{◌∙◌, sym, pos}
+use Rattle.schedule.proofs.Names.{Bookmark, bookmark_id, marking, pos, sym, ◌∙◌}
 use Rattle.bookmarks.specs.declared.view.View.TheVariants.{Window}
-use Rattle.schedule.specs.declared.document.Bookmark.{Bookmark}
-use Rattle.schedule.specs.Ids.{bookmark_id}
-use Rattle.schedule.specs.Change.{marking}
 use Rattle.schedule.proofs.Shared.Ids.{changed_at-Some, changed_at-None}
 use Rattle.schedule.proofs.apply.move_in.Goals as goal
 

@@ -1,5 +1,4 @@
-use Rattle.std.proofs.Common.{rules}
-use Rattle.std.proofs.lemmas.Fn.{filter_same}
+use Rattle.schedule.proofs.Names.{filter_same, rules}
 use Rattle.schedule.proofs.apply.remove_branch_in.Goals as goal
 
 pub returns : goal.returns

@@ -1,5 +1,4 @@
-use Rattle.std.proofs.Common.{◌≡◌, arith}
-use Rattle.std.proofs.lemmas.Bool.Decides.{nat_tests}
+use Rattle.schedule.proofs.Names.{arith, nat_tests, ◌≡◌}
 use Rattle.schedule.proofs.Shared.Branches.{forks_near, parents_before}
 use Rattle.schedule.proofs.Shared.Felt.{felt-back, felt-here}
 use Rattle.schedule.proofs.branch.is_felt.Goals.{then-loop-at-test+else-at-ne0, else-loop-at-test}

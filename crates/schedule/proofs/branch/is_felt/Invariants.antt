@@ -1,5 +1,4 @@
-use Rattle.std.proofs.Common.{◌≡◌}
-use Rattle.schedule.specs.History.{is_felt}
+use Rattle.schedule.proofs.Names.{is_felt, ◌≡◌}
 use Rattle.schedule.proofs.branch.is_felt.Given as goal
 
 abbrev pub invariant-loop-at : goal.invariant-loop-at

@@ -1,6 +1,4 @@
-use Rattle.std.proofs.Common.{◌≡◌, ◌∙◌, sym, rules}
-use Rattle.worlds.specs.World.{blank}
-use Rattle.worlds.specs.Range.{IsBoundingBox}
+use Rattle.schedule.proofs.Names.{IsBoundingBox, blank, rules, sym, ◌∙◌, ◌≡◌}
 use Rattle.schedule.proofs.Below.{lies_near_is, lies_near-blank}
 use Rattle.schedule.proofs.check.lies_near.Goals as goal
 

@@ -1,6 +1,4 @@
-use Rattle.std.proofs.Common.{◌≡◌, ℕ, ◌∙◌, ap, List, ◌++◌}
-use Rattle.schedule.specs.declared.document.Intervention.{Intervention}
-use Rattle.schedule.specs.Scratch.{cells_at}
+use Rattle.schedule.proofs.Names.{Intervention, List, ap, cells_at, ℕ, ◌++◌, ◌∙◌, ◌≡◌}
 use Rattle.schedule.proofs.Shared.Lines.{cells-singles, arrival-singles}
 use Rattle.schedule.proofs.laws.repeat_is_its_singles.Goals as goal
 

@@ -1,5 +1,4 @@
-use Rattle.std.proofs.Common.{◌≡◌, ◌≤◌, length}
-use Rattle.script_lines.specs.Words.{words}
+use Rattle.script_lines.proofs.Names.{length, words, ◌≡◌, ◌≤◌}
 use Rattle.script_lines.proofs.words.skip_spaces.Given as goal
 
 abbrev pub invariant-loop-left : goal.invariant-loop-left

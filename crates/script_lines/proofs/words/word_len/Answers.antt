@@ -1,5 +1,4 @@
-use Rattle.std.proofs.Common.{◌≡◌, ◌==◌, false, length, get_or, take, sym, subst, rules, arith}
-use Rattle.std.proofs.lemmas.List.{take_more}
+use Rattle.script_lines.proofs.Names.{arith, false, get_or, length, rules, subst, sym, take, take_more, ◌==◌, ◌≡◌}
 use Rattle.script_lines.proofs.Splitting.{words-at, no_space-push, NoSpace, starts-some, starts-apart}
 use Rattle.script_lines.proofs.words.word_len.Goals as goal
 

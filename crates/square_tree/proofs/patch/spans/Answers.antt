@@ -1,5 +1,4 @@
-use Rattle.std.proofs.Common.{arith}
-use Rattle.std.proofs.lemmas.Int.{ints}
+use Rattle.square_tree.proofs.Names.{arith, ints}
 use Rattle.square_tree.proofs.patch.spans.Goals as goal
 
 pub returns : goal.returns

@@ -1,5 +1,4 @@
-use Rattle.std.proofs.Common.{◌≤◌, ◌^◌, arith}
-use Rattle.std.proofs.Math.Pow.{pow_mono}
+use Rattle.square_tree.proofs.Names.{arith, pow_mono, ◌^◌, ◌≤◌}
 use Rattle.square_tree.proofs.tree.side.Goals as goal
 
 pub returns-clause-fits : goal.returns-clause-fits

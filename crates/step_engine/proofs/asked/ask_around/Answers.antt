@@ -1,10 +1,4 @@
-use Rattle.std.proofs.Common.{◌≡◌, ◌<◌, ◌≤◌, sym, ap, subst, arith, get_or, take, pos, [], ◌∷◌}
-use Rattle.std.proofs.lemmas.Int.{ints}
-use Rattle.std.proofs.lemmas.List.{take_more, take_all}
-use Rattle.worlds.specs.World.{Place}
-use Rattle.worlds.specs.Step.{places_around}
-use Rattle.step_engine.specs.Asked.{AsksMore}
-use Rattle.step_engine.specs.Room.{HasRoomAround}
+use Rattle.step_engine.proofs.Names.{AsksMore, HasRoomAround, Place, [], ap, arith, get_or, ints, places_around, pos, subst, sym, take, take_all, take_more, ◌<◌, ◌∷◌, ◌≡◌, ◌≤◌}
 use Rattle.step_engine.proofs.Asks.{AsksMore-at, AsksMore-none, AsksMore-then}
 use Rattle.step_engine.proofs.Offsets.{near_at, place_at}
 use Rattle.step_engine.proofs.Rooms.{held_near}

@@ -1,6 +1,4 @@
-use Rattle.std.proofs.Common.{take}
-use Rattle.worlds.specs.Step.{places_around}
-use Rattle.step_engine.specs.Asked.{AsksMore}
+use Rattle.step_engine.proofs.Names.{AsksMore, places_around, take}
 use Rattle.step_engine.proofs.asked.ask_around.Given as goal
 
 abbrev pub invariant-loop-offset : goal.invariant-loop-offset

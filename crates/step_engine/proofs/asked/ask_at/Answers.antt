@@ -1,7 +1,4 @@
-use Rattle.std.proofs.Common.{◌≡◌, ◌<◌, ◌∙◌, sym, ap, ap₂, arith, true, false}
-use Rattle.std.specs.Prelude.{is_some}
-use Rattle.std.proofs.lemmas.Int.{ints}
-use Rattle.square_tree.specs.Cells.{state_at}
+use Rattle.step_engine.proofs.Names.{ap, ap₂, arith, false, ints, is_some, state_at, sym, true, ◌<◌, ◌∙◌, ◌≡◌}
 use Rattle.step_engine.proofs.Asks.{AsksMore-again, AsksMore-noted}
 use Rattle.step_engine.proofs.asked.ask_at.Goals as goal
 

@@ -1,9 +1,4 @@
-use Rattle.std.proofs.Common.{◌≡◌, ◌∙◌, sym, ap, subst, arith, ◌+◌, ◌-◌, suc, refl}
-use Rattle.worlds.specs.Step.{step}
-use Rattle.worlds.specs.Iterate.{iterate, iterate-zero, iterate-one_more}
-use Rattle.worlds.specs.Range.{HasMargin, AllBelow}
-use Rattle.worlds.proofs.Shared.Stepped.{AllBelow-step, HasMargin-step, HasMargin-less}
-use Rattle.worlds.proofs.Shared.Steps.{still-iterate}
+use Rattle.step_engine.proofs.Names.{AllBelow, AllBelow-step, HasMargin, HasMargin-less, HasMargin-step, ap, arith, iterate, iterate-one_more, iterate-zero, refl, step, still-iterate, subst, suc, sym, ◌+◌, ◌-◌, ◌∙◌, ◌≡◌}
 use Rattle.step_engine.proofs.engine.evolve_plain.Goals as goal
 use Rattle.step_engine.proofs.engine.evolve_plain.Goals.{else-loop-test, then-loop-test+else-poll+in_ok-next_generation+in-None}
 

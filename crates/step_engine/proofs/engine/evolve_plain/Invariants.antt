@@ -1,7 +1,4 @@
-use Rattle.std.proofs.Common.{◌≡◌, ◌-◌}
-use Rattle.worlds.specs.Step.{step}
-use Rattle.worlds.specs.Iterate.{iterate}
-use Rattle.worlds.specs.Range.{HasMargin, AllBelow}
+use Rattle.step_engine.proofs.Names.{AllBelow, HasMargin, iterate, step, ◌-◌, ◌≡◌}
 use Rattle.step_engine.proofs.engine.evolve_plain.Given as goal
 
 abbrev pub invariant-loop : goal.invariant-loop

@@ -1,6 +1,4 @@
-use Rattle.std.proofs.Common.{◌<◌, ◌∙◌, arith, length, refl, take, get_or, pos, rules, w64, to_z-of_z}
-use Rattle.worlds.specs.declared.cell.CellSet.{CellSet}
-use Rattle.worlds.specs.Step.{places_around}
+use Rattle.step_engine.proofs.Names.{CellSet, arith, get_or, length, places_around, pos, refl, rules, take, to_z-of_z, w64, ◌<◌, ◌∙◌}
 use Rattle.step_engine.proofs.Asks.{AsksMore-at}
 use Rattle.step_engine.proofs.Mentions.{place_of}
 use Rattle.step_engine.proofs.Next.{asked_for, asked_for-more, asked_all, next-laid, next-together, next-still}

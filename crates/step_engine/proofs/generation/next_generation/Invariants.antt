@@ -1,5 +1,4 @@
-use Rattle.std.proofs.Common.{◌≡◌, take}
-use Rattle.step_engine.specs.Asked.{HasAsked}
+use Rattle.step_engine.proofs.Names.{HasAsked, take, ◌≡◌}
 use Rattle.step_engine.proofs.Next.{asked_for}
 use Rattle.step_engine.proofs.generation.next_generation.Given as goal
 

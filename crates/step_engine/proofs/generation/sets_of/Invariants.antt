@@ -1,6 +1,4 @@
-use Rattle.std.proofs.Common.{◌≡◌, ◌<◌, map, take}
-use Rattle.std.specs.Prelude.{All}
-use Rattle.step_engine.specs.Listed.{as_set}
+use Rattle.step_engine.proofs.Names.{All, as_set, map, take, ◌<◌, ◌≡◌}
 use Rattle.step_engine.proofs.generation.sets_of.Given as goal
 
 abbrev pub invariant-loop-cell : goal.invariant-loop-cell

@@ -1,6 +1,4 @@
-use Rattle.std.proofs.Common.{rules, arith}
-use Rattle.square_table.proofs.Shared.Centring.{one_world}
-use Rattle.hash_engine.proofs.Shared.{IsRight-grows}
+use Rattle.step_engine.proofs.Names.{IsRight-grows, arith, one_world, rules}
 use Rattle.step_engine.proofs.Spent.{root-for, root-asked, root-later, later-world, start-spent, search-spent}
 use Rattle.step_engine.proofs.kept.pass.Goals as goal
 

@@ -1,5 +1,4 @@
-use Rattle.std.proofs.Common.{arith, refl}
-use Rattle.std.proofs.lemmas.Int.{ints}
+use Rattle.step_engine.proofs.Names.{arith, ints, refl}
 use Rattle.step_engine.proofs.margin.box_fits.Goals as goal
 
 pub returns : goal.returns

@@ -1,10 +1,5 @@
-use Rattle.std.proofs.lemmas.Result.{IfOk-weaker}
-use Rattle.std.proofs.Common.{suc, ◌+◌, ◌-◌, ◌<◌, ◌≤◌, ℕ, ◌∷◌, [], length, sym, subst, arith}
-use Rattle.square_table.specs.Squares.{IsNumber, IsSquareOf, first_number, level_of, square_of}
+use Rattle.step_engine.proofs.Names.{IfOk-weaker, IsNumber, IsSquareOf, Keeps-grows, StandsFor, [], arith, first_number, length, level_of, padded, square_of, subst, suc, sym, ℕ, ◌+◌, ◌-◌, ◌<◌, ◌∷◌, ◌≤◌}
 use Rattle.square_table.proofs.Shared.Tables.{above_zero}
-use Rattle.square_table.proofs.Shared.Growth.{Keeps-grows}
-use Rattle.hash_engine.specs.Standing.{StandsFor}
-use Rattle.step_engine.specs.Padded.{padded}
 use Rattle.step_engine.proofs.Joins.{IsPadding, IsPadding-begun, nw-joined, ne-joined, sw-joined, se-joined, whole-joined, IsPaddedNumber-made}
 use Rattle.step_engine.proofs.padding.pad.Goals as goal
 use Rattle.step_engine.proofs.padding.pad.Goals.{After-number, After-quadrants, After-join_numbers-5}

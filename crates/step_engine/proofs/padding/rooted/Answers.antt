@@ -1,5 +1,4 @@
-use Rattle.std.proofs.Common.{refl, arith}
-use Rattle.std.proofs.lemmas.Result.{IfOk-weaker}
+use Rattle.step_engine.proofs.Names.{IfOk-weaker, arith, refl}
 use Rattle.step_engine.proofs.Spent.{low_enough, AddsStart-loaded, AddsStart-widened, IsRooted-widened}
 use Rattle.step_engine.proofs.padding.rooted.Goals as goal
 

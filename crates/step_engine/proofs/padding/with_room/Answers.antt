@@ -1,7 +1,4 @@
-use Rattle.std.proofs.Common.{◌≡◌, ◌+◌, ◌≤◌, refl, subst, arith}
-use Rattle.square_table.specs.Squares.{level_of, cells_of}
-use Rattle.square_table.specs.Centred.{IsCentred}
-use Rattle.square_table.proofs.Shared.Growth.{Grows-same}
+use Rattle.step_engine.proofs.Names.{Grows-same, IsCentred, arith, cells_of, level_of, refl, subst, ◌+◌, ◌≡◌, ◌≤◌}
 use Rattle.step_engine.proofs.Joins.{padded-centred, AddsRound-padded}
 use Rattle.step_engine.proofs.padding.with_room.Goals as goal
 

@@ -1,8 +1,5 @@
-use Rattle.std.proofs.Common.{◌-◌, ◌≤◌}
-use Rattle.worlds.specs.World.{World}
-use Rattle.square_table.specs.Squares.{IsHeld, level_of, cells_of}
-use Rattle.square_table.specs.Centred.{IsCentred}
-use Rattle.step_engine.specs.Padded.{AddsRound}
+use Rattle.step_engine.proofs.Names.{AddsRound, IsCentred, World, cells_of, level_of, ◌-◌, ◌≤◌}
+use Rattle.square_table.specs.Squares.{IsHeld}
 use Rattle.step_engine.proofs.padding.with_room.Given as goal
 
 abbrev pub invariant-loop-table : goal.invariant-loop-table

@@ -1,6 +1,4 @@
-use Rattle.std.proofs.Common.{◌≡◌, ◌-◌, ◌^◌, refl, ap, sym, ◌∙◌, subst, arith}
-use Rattle.std.proofs.lemmas.Int.{ints}
-use Rattle.step_engine.specs.Reach.{BoxLiesWithin}
+use Rattle.step_engine.proofs.Names.{BoxLiesWithin, ap, arith, ints, refl, subst, sym, ◌-◌, ◌^◌, ◌∙◌, ◌≡◌}
 use Rattle.step_engine.proofs.Boxes.{IsInRange-box, HasMargin-box}
 use Rattle.step_engine.proofs.Reaching.{LiesWithin-box, LiesWithin-blank, box-LiesWithin}
 use Rattle.step_engine.proofs.reach.has_room_for.Goals as goal

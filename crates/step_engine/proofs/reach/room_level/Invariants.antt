@@ -1,5 +1,4 @@
-use Rattle.std.proofs.Common.{ℕ, ◌-◌, ◌≤◌}
-use Rattle.step_engine.specs.Reach.{HasRoomFor}
+use Rattle.step_engine.proofs.Names.{HasRoomFor, ℕ, ◌-◌, ◌≤◌}
 use Rattle.step_engine.proofs.reach.room_level.Given as goal
 
 abbrev pub invariant-loop-k : goal.invariant-loop-k

@@ -1,8 +1,4 @@
-use Rattle.std.proofs.Common.{◌≡◌, ◌<◌, sym, subst, arith, rules, length, true, get_or, take}
-use Rattle.std.specs.Prelude.{All}
-use Rattle.std.proofs.lemmas.List.{take_more, take_all}
-use Rattle.std.proofs.lemmas.List.Elements.{All-push}
-use Rattle.step_engine.specs.Room.{CellHasRoom}
+use Rattle.step_engine.proofs.Names.{All, All-push, CellHasRoom, arith, get_or, length, rules, subst, sym, take, take_all, take_more, true, ◌<◌, ◌≡◌}
 use Rattle.step_engine.proofs.room.all_have_room.Goals as goal
 
 pub loop-cell-preserved : goal.loop-cell-preserved

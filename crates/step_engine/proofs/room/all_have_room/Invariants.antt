@@ -1,6 +1,4 @@
-use Rattle.std.proofs.Common.{take}
-use Rattle.std.specs.Prelude.{All}
-use Rattle.step_engine.specs.Room.{CellHasRoom}
+use Rattle.step_engine.proofs.Names.{All, CellHasRoom, take}
 use Rattle.step_engine.proofs.room.all_have_room.Given as goal
 
 abbrev pub invariant-loop-cell : goal.invariant-loop-cell

@@ -1,5 +1,4 @@
-use Rattle.std.proofs.Common.{◌≡◌, ◌∙◌, sym, true, false, arith}
-use Rattle.std.proofs.lemmas.Int.{ints}
+use Rattle.step_engine.proofs.Names.{arith, false, ints, sym, true, ◌∙◌, ◌≡◌}
 use Rattle.step_engine.proofs.room.has_room.Goals as goal
 
 pub returns-then-holds : goal.returns-then-holds

@@ -1,7 +1,5 @@
-use Rattle.std.proofs.Common.{◌<◌, ◌∙◌, sym, ap, arith, rules, length, refl, unwrap_or, w64, to_z-of_z}
+use Rattle.step_engine.proofs.Names.{Cells, ap, arith, cell-blank, length, place_cmp, refl, rules, state_at, sym, to_z-of_z, unwrap_or, w64, ◌<◌, ◌∙◌}
 use Rattle.std.specs.FinMap as finite
-use Rattle.worlds.specs.World.{place_cmp, cell-blank}
-use Rattle.square_tree.specs.Cells.{Cells, state_at}
 use Rattle.step_engine.proofs.Together.{shown-set}
 use Rattle.step_engine.proofs.room.set_all.Goals as goal
 

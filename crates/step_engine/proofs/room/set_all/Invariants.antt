@@ -1,7 +1,4 @@
-use Rattle.std.proofs.Common.{◌≡◌, ℤ, take, unwrap_or}
-use Rattle.worlds.specs.World.{cell, blank}
-use Rattle.worlds.specs.Lay.{lay}
-use Rattle.square_tree.specs.Cells.{state_at}
+use Rattle.step_engine.proofs.Names.{blank, cell, lay, state_at, take, unwrap_or, ℤ, ◌≡◌}
 use Rattle.step_engine.proofs.room.set_all.Given as goal
 
 abbrev pub invariant-loop-cell : goal.invariant-loop-cell

@@ -1,6 +1,4 @@
-use Rattle.std.proofs.Common.{◌≤◌, ap, arith, rules}
-use Rattle.square_table.specs.Squares.{Table}
-use Rattle.square_table.proofs.Shared.Centring.{one_world}
+use Rattle.step_engine.proofs.Names.{Table, ap, arith, one_world, rules, ◌≤◌}
 use Rattle.step_engine.proofs.Spent.{root-for, root-asked, root-later, later-world, searching, searched, all-put, start-spent, search-spent}
 use Rattle.step_engine.proofs.shared.evolve_by.Goals as goal
 

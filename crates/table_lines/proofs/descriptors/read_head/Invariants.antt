@@ -1,5 +1,4 @@
-use Rattle.std.proofs.Common.{◌≡◌, length}
-use Rattle.table_lines.specs.Descriptors.{head_from, undescribed}
+use Rattle.table_lines.proofs.Names.{head_from, length, undescribed, ◌≡◌}
 use Rattle.table_lines.proofs.descriptors.read_head.Given as goal
 
 abbrev pub invariant-loop-left : goal.invariant-loop-left

@@ -1,6 +1,4 @@
-use Rattle.std.proofs.Common.{◌≡◌, ap, sym, ◌+◌, ◌∙◌, ◌&&◌, ◌==◌, nat_le, not, false, if◌then◌else◌, length}
-use Rattle.std.specs.List.{list_any}
-use Rattle.table_lines.specs.Fields.{parts, single_bytes}
+use Rattle.table_lines.proofs.Names.{ap, false, if◌then◌else◌, length, list_any, nat_le, not, parts, single_bytes, sym, ◌&&◌, ◌+◌, ◌==◌, ◌∙◌, ◌≡◌}
 use Rattle.table_lines.proofs.Splits.{length-parts}
 use Rattle.table_lines.proofs.fields.entry_count.Goals as goal
 

@@ -1,5 +1,4 @@
-use Rattle.std.proofs.Common.{sym, ◌∙◌, arith}
-use Rattle.std.proofs.lemmas.Grind.{common_steps}
+use Rattle.table_lines.proofs.Names.{arith, common_steps, sym, ◌∙◌}
 use Rattle.table_lines.proofs.Splits.{parts-some, parts-none}
 use Rattle.table_lines.proofs.fields.split_part.Goals as goal
 

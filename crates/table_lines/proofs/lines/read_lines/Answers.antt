@@ -1,6 +1,4 @@
-use Rattle.table_lines.specs.Descriptors.{head_from, undescribed}
-use Rattle.table_lines.specs.Table.{headed}
-use Rattle.rule_file.proofs.Shared.Readings.{handed_on}
+use Rattle.table_lines.proofs.Names.{handed_on, head_from, headed, undescribed}
 use Rattle.table_lines.proofs.HeadFaults.{head_from-none}
 use Rattle.table_lines.proofs.Shared.SaidTables.{lines-read}
 use Rattle.table_lines.proofs.lines.read_lines.Goals as goal

@@ -1,11 +1,4 @@
-use Rattle.std.proofs.Common.{arith, ◌≡◌, ◌+◌, ◌∷◌, ◌∙◌, true, false, is_some, sym, ap, drop, rules, subst}
-use Rattle.std.proofs.lemmas.Grind.{common_steps}
-use Rattle.std.proofs.lemmas.List.{drop_more}
-use Rattle.table_lines.specs.Below.{VariablesBelow}
-use Rattle.table_lines.specs.Definitions.{variables_of}
-use Rattle.table_lines.specs.Descriptors.{descriptor_of}
-use Rattle.table_lines.specs.Transitions.{transitions_of}
-use Rattle.table_lines.specs.Variables.{defines_variable}
+use Rattle.table_lines.proofs.Names.{VariablesBelow, ap, arith, common_steps, defines_variable, descriptor_of, drop, drop_more, false, is_some, rules, subst, sym, transitions_of, true, variables_of, ◌+◌, ◌∙◌, ◌∷◌, ◌≡◌}
 use Rattle.table_lines.proofs.Unions.{behind-push, variables_after-below}
 use Rattle.table_lines.proofs.transitions.read_transitions.Goals as goal
 

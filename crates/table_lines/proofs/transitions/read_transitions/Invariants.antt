@@ -1,9 +1,4 @@
-use Rattle.std.proofs.Common.{◌≡◌, ◌≤◌, drop}
-use Rattle.table_lines.specs.Below.{VariablesBelow}
-use Rattle.table_lines.specs.Definitions.{variables_of}
-use Rattle.table_lines.specs.Entries.{behind}
-use Rattle.table_lines.specs.Transitions.{transitions_of}
-use Rattle.table_lines.specs.Variables.{no_variables}
+use Rattle.table_lines.proofs.Names.{VariablesBelow, behind, drop, no_variables, transitions_of, variables_of, ◌≡◌, ◌≤◌}
 use Rattle.table_lines.proofs.transitions.read_transitions.Given as goal
 
 abbrev pub invariant-loop-line : goal.invariant-loop-line

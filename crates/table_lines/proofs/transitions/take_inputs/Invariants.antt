@@ -1,9 +1,4 @@
-use Rattle.std.proofs.Common.{◌≡◌, ◌+◌, length}
-use Rattle.table_lines.specs.Definitions.{variables_of}
-use Rattle.table_lines.specs.Entries.{behind}
-use Rattle.table_lines.specs.Neighborhood.{places_of}
-use Rattle.table_lines.specs.Transitions.{entry_of}
-use Rattle.table_lines.specs.Variables.{each}
+use Rattle.table_lines.proofs.Names.{behind, each, entry_of, length, places_of, variables_of, ◌+◌, ◌≡◌}
 use Rattle.table_lines.proofs.transitions.take_inputs.Given as goal
 
 abbrev pub invariant-loop : goal.invariant-loop

@@ -1,5 +1,4 @@
-use Rattle.std.proofs.Common.{ℕ, List, ◌∷◌, ◌++◌, take, drop}
-use Rattle.table_symmetry.specs.Expanded.{same_sets}
+use Rattle.table_symmetry.proofs.Names.{List, drop, same_sets, take, ℕ, ◌++◌, ◌∷◌}
 use Rattle.table_symmetry.proofs.Arranged.{same_sets_decides}
 use Rattle.table_symmetry.proofs.Distinct.{with_all-next}
 use Rattle.table_symmetry.proofs.arrangement.add_insertions.Goals as goal

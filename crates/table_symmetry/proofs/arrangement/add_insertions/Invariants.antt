@@ -1,7 +1,4 @@
-use Rattle.std.proofs.Common.{◌≡◌, ◌∷◌, ◌++◌, map, take, drop}
-use Rattle.std.specs.List.{range_with_len}
-use Rattle.table_symmetry.specs.Expanded.{same_sets}
-use Rattle.table_symmetry.specs.Grown.{lists_in, with_all}
+use Rattle.table_symmetry.proofs.Names.{drop, lists_in, map, range_with_len, same_sets, take, with_all, ◌++◌, ◌∷◌, ◌≡◌}
 use Rattle.table_symmetry.proofs.arrangement.add_insertions.Given as goal
 
 abbrev pub invariant-loop-place : goal.invariant-loop-place

@@ -1,5 +1,4 @@
-use Rattle.std.proofs.Common.{◌∙◌, ap}
-use Rattle.table_symmetry.specs.Grown.{lists_in}
+use Rattle.table_symmetry.proofs.Names.{ap, lists_in, ◌∙◌}
 use Rattle.table_symmetry.proofs.Arranged.{key-inserted}
 use Rattle.table_symmetry.proofs.arrangement.add_new.Goals as goal
 

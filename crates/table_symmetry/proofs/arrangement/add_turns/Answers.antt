@@ -1,7 +1,5 @@
-use Rattle.std.proofs.Common.{ℕ, ◌*◌, ◌/◌, List, length}
-use Rattle.std.proofs.lemmas.List.{take_rest}
+use Rattle.table_symmetry.proofs.Names.{List, length, same_sets, take_rest, ℕ, ◌*◌, ◌/◌}
 use Rattle.table_symmetry.specs.Circle as maps
-use Rattle.table_symmetry.specs.Expanded.{same_sets}
 use Rattle.table_symmetry.proofs.Arranged.{same_sets_decides}
 use Rattle.table_symmetry.proofs.Distinct.{with_all-next}
 use Rattle.table_symmetry.proofs.arrangement.add_turns.Goals as goal

@@ -1,8 +1,5 @@
-use Rattle.std.proofs.Common.{◌≡◌, ◌*◌, ◌/◌, length, map}
-use Rattle.std.specs.List.{range_with_len}
+use Rattle.table_symmetry.proofs.Names.{length, lists_in, map, range_with_len, same_sets, with_all, ◌*◌, ◌/◌, ◌≡◌}
 use Rattle.table_symmetry.specs.Circle as maps
-use Rattle.table_symmetry.specs.Expanded.{same_sets}
-use Rattle.table_symmetry.specs.Grown.{lists_in, with_all}
 use Rattle.table_symmetry.proofs.arrangement.add_turns.Given as goal
 
 abbrev pub invariant-loop-turn : goal.invariant-loop-turn

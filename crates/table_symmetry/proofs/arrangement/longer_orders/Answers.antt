@@ -1,10 +1,5 @@
-use Rattle.std.proofs.Common.{[], ap, ◌∙◌}
-use Rattle.std.specs.List.{flat_map}
-use Rattle.std.proofs.lemmas.Grind.{flat_map-append}
-use Rattle.std.proofs.lemmas.List.{append-nil, take_all}
+use Rattle.table_symmetry.proofs.Names.{[], ap, append-nil, flat_map, flat_map-append, lists_in, same_sets, take_all, ◌∙◌}
 use Rattle.table_symmetry.specs.Circle as maps
-use Rattle.table_symmetry.specs.Expanded.{same_sets}
-use Rattle.table_symmetry.specs.Grown.{lists_in}
 use Rattle.table_symmetry.proofs.Arranged.{lists-more, same_sets_decides}
 use Rattle.table_symmetry.proofs.Distinct.{with_all-append, with_all-distinct}
 use Rattle.table_symmetry.proofs.arrangement.longer_orders.Goals as goal

@@ -1,8 +1,5 @@
-use Rattle.std.proofs.Common.{◌≡◌, [], take}
-use Rattle.std.specs.List.{flat_map}
+use Rattle.table_symmetry.proofs.Names.{[], flat_map, lists_in, same_sets, take, with_all, ◌≡◌}
 use Rattle.table_symmetry.specs.Circle as maps
-use Rattle.table_symmetry.specs.Expanded.{same_sets}
-use Rattle.table_symmetry.specs.Grown.{lists_in, with_all}
 use Rattle.table_symmetry.proofs.arrangement.longer_orders.Given as goal
 
 abbrev pub invariant-loop-list : goal.invariant-loop-list

@@ -1,6 +1,5 @@
-use Rattle.std.proofs.Common.{◌∙◌}
+use Rattle.table_symmetry.proofs.Names.{same_sets, ◌∙◌}
 use Rattle.table_symmetry.specs.Circle as maps
-use Rattle.table_symmetry.specs.Expanded.{same_sets}
 use Rattle.table_symmetry.proofs.Arranged.{same_sets_decides}
 use Rattle.table_symmetry.proofs.Distinct.{with_all-distinct}
 use Rattle.table_symmetry.proofs.arrangement.turns_and_reflections.Goals as goal

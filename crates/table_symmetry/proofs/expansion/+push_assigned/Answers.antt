@@ -1,6 +1,4 @@
-use Rattle.std.proofs.Common.{◌∙◌}
-use Rattle.std.proofs.lemmas.List.{take_all}
-use Rattle.std.proofs.lemmas.Result.{err_from_is_err_and}
+use Rattle.table_symmetry.proofs.Names.{err_from_is_err_and, take_all, ◌∙◌}
 use Rattle.table_symmetry.proofs.Growing.{all_under, more, too_long, rows_under}
 use Rattle.table_symmetry.proofs.expansion.+push_assigned.Goals as goal
 

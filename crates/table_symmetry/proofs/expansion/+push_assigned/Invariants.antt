@@ -1,6 +1,4 @@
-use Rattle.std.proofs.Common.{◌≡◌, ◌≤◌, ◌++◌, length, take}
-use Rattle.std.specs.List.{flat_map}
-use Rattle.table_symmetry.specs.Expanded.{expanded_one, transition_limit}
+use Rattle.table_symmetry.proofs.Names.{expanded_one, flat_map, length, take, transition_limit, ◌++◌, ◌≡◌, ◌≤◌}
 use Rattle.table_symmetry.specs.NextState as meaning
 use Rattle.table_symmetry.proofs.expansion.+push_assigned.Given as goal
 

@@ -1,6 +1,4 @@
-use Rattle.std.proofs.Common.{[], zero-add}
-use Rattle.std.proofs.lemmas.Result.{err_from_is_err_and}
-use Rattle.table_symmetry.specs.Expanded.{expanded_of}
+use Rattle.table_symmetry.proofs.Names.{[], err_from_is_err_and, expanded_of, zero-add}
 use Rattle.table_symmetry.proofs.Growing.{too_long}
 use Rattle.table_symmetry.proofs.expansion.expand.Goals as goal
 

@@ -1,6 +1,4 @@
-use Rattle.std.proofs.Common.{◌≡◌, ◌≤◌, length, take}
-use Rattle.std.specs.List.{flat_map}
-use Rattle.table_symmetry.specs.Expanded.{expanded_of, transition_limit}
+use Rattle.table_symmetry.proofs.Names.{expanded_of, flat_map, length, take, transition_limit, ◌≡◌, ◌≤◌}
 use Rattle.table_symmetry.proofs.expansion.expand.Given as goal
 
 abbrev pub invariant-loop-transition : goal.invariant-loop-transition

@@ -1,7 +1,4 @@
-use Rattle.std.proofs.Common.{◌≡◌, append_assoc, ap}
-use Rattle.std.proofs.lemmas.List.{map-append, take_all}
-use Rattle.table_symmetry.specs.declared.expansion.Expanded.{Expanded}
-use Rattle.table_symmetry.specs.Grown.{lists_in, row_of}
+use Rattle.table_symmetry.proofs.Names.{Expanded, ap, append_assoc, lists_in, map-append, row_of, take_all, ◌≡◌}
 use Rattle.table_symmetry.proofs.Arranged.{lists-more}
 use Rattle.table_symmetry.proofs.expansion.push_lists.Goals as goal
 

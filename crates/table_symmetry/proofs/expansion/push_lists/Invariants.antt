@@ -1,5 +1,4 @@
-use Rattle.std.proofs.Common.{◌≡◌, ◌++◌, map, take}
-use Rattle.table_symmetry.specs.Grown.{lists_in, row_of}
+use Rattle.table_symmetry.proofs.Names.{lists_in, map, row_of, take, ◌++◌, ◌≡◌}
 use Rattle.table_symmetry.proofs.expansion.push_lists.Given as goal
 
 abbrev pub invariant-loop-list : goal.invariant-loop-list

@@ -1,6 +1,4 @@
-use Rattle.std.proofs.Common.{◌≡◌, ◌∙◌, length, map, min, take, drop, ap, arith}
-use Rattle.std.proofs.lemmas.List.{length-append, length-map}
-use Rattle.table_symmetry.specs.Expanded.{sets_of}
+use Rattle.table_symmetry.proofs.Names.{ap, arith, drop, length, length-append, length-map, map, min, sets_of, take, ◌∙◌, ◌≡◌}
 use Rattle.table_symmetry.specs.NextState as meaning
 use Rattle.table_symmetry.proofs.Growing.{split_one}
 use Rattle.table_symmetry.proofs.expansion.push_one.Goals as goal

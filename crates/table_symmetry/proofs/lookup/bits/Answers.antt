@@ -1,6 +1,4 @@
-use Rattle.std.proofs.Common.{arith}
-use Rattle.std.proofs.lemmas.List.{get_or_past}
-use Rattle.std.proofs.lemmas.Nat.Bits.{bit_at-zero, shr_and_one}
+use Rattle.table_symmetry.proofs.Names.{arith, bit_at-zero, get_or_past, shr_and_one}
 use Rattle.table_symmetry.proofs.Columns.{IsPacked-more}
 use Rattle.table_symmetry.proofs.lookup.bits.Goals as goal
 

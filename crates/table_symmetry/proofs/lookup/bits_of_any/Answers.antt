@@ -1,7 +1,4 @@
-use Rattle.std.proofs.Common.{◌≡◌, get_or, inl, inr, arith}
-use Rattle.std.proofs.lemmas.Bool.{cases_lt}
-use Rattle.std.proofs.lemmas.List.{get_or_past}
-use Rattle.std.proofs.lemmas.Nat.Bits.{bit_at-zero, bit_at_or}
+use Rattle.table_symmetry.proofs.Names.{arith, bit_at-zero, bit_at_or, cases_lt, get_or, get_or_past, inl, inr, ◌≡◌}
 use Rattle.table_symmetry.proofs.lookup.bits_of_any.Goals as goal
 
 pub loop-word-preserved : goal.loop-word-preserved

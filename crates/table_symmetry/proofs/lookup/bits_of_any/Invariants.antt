@@ -1,5 +1,4 @@
-use Rattle.std.proofs.Common.{◌≡◌, ℕ, ◌<◌, get_or}
-use Rattle.std.specs.Int.{bit_at}
+use Rattle.table_symmetry.proofs.Names.{bit_at, get_or, ℕ, ◌<◌, ◌≡◌}
 use Rattle.table_symmetry.proofs.lookup.bits_of_any.Given as goal
 
 -- the words so far have none of the bits that are 0

@@ -1,5 +1,4 @@
-use Rattle.std.proofs.Common.{◌≡◌, ℕ, ◌*◌, ◌/◌, ◌%◌, ◌<◌, length, get_or}
-use Rattle.std.specs.Int.{bit_at}
+use Rattle.table_symmetry.proofs.Names.{bit_at, get_or, length, ℕ, ◌%◌, ◌*◌, ◌/◌, ◌<◌, ◌≡◌}
 use Rattle.table_symmetry.proofs.lookup.column.Given as goal
 
 -- a word for each 64 of the words

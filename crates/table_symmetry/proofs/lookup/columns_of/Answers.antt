@@ -1,5 +1,4 @@
-use Rattle.std.proofs.Common.{arith, ◌≡◌, ◌+◌, ◌/◌, ℕ, List, [], length, refl, ap, ◌∙◌}
-use Rattle.table_symmetry.specs.Lookup.{HaveBitsOf, TellsRows, word_of_each}
+use Rattle.table_symmetry.proofs.Names.{HaveBitsOf, List, TellsRows, [], ap, arith, length, refl, word_of_each, ℕ, ◌+◌, ◌/◌, ◌∙◌, ◌≡◌}
 use Rattle.table_symmetry.proofs.Columns.{AreRight-more, column_tells}
 use Rattle.table_symmetry.proofs.lookup.columns_of.Goals as goal
 use Rattle.table_symmetry.proofs.lookup.columns_of.Goals.{After-from-in-loop-state, then-state-eq0+in_ok-words+in_ok-unions, else-state-eq0}

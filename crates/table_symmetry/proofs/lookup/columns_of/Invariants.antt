@@ -1,5 +1,4 @@
-use Rattle.std.proofs.Common.{◌≡◌, ◌≢◌, ◌/◌, ◌%◌, []}
-use Rattle.table_symmetry.specs.Lookup.{HaveBitsOf, TellsRows, word_of_each}
+use Rattle.table_symmetry.proofs.Names.{HaveBitsOf, TellsRows, [], word_of_each, ◌%◌, ◌/◌, ◌≡◌, ◌≢◌}
 use Rattle.table_symmetry.proofs.Columns.{AreRight}
 use Rattle.table_symmetry.proofs.lookup.columns_of.Given as goal
 

@@ -1,5 +1,4 @@
-use Rattle.std.proofs.Common.{◌≡◌, drop}
-use Rattle.table_symmetry.specs.Expanded.{first_match}
+use Rattle.table_symmetry.proofs.Names.{drop, first_match, ◌≡◌}
 use Rattle.table_symmetry.proofs.matching.first_match.Given as goal
 
 abbrev pub invariant-loop-row : goal.invariant-loop-row

@@ -1,8 +1,4 @@
-use Rattle.std.proofs.Common.{◌≡◌, ◌≤◌, length, unwrap_or, sym, ◌∙◌, inr}
-use Rattle.worlds.specs.Step.{nine_zeros}
-use Rattle.table_symmetry.specs.Expanded.{expanded, first_match, transition_limit}
-use Rattle.table_symmetry.specs.Kept.{IsKeptTable}
-use Rattle.table_symmetry.specs.NextState.{inputs_of}
+use Rattle.table_symmetry.proofs.Names.{IsKeptTable, expanded, first_match, inputs_of, inr, length, nine_zeros, sym, transition_limit, unwrap_or, ◌∙◌, ◌≡◌, ◌≤◌}
 use Rattle.table_symmetry.proofs.Limits.{are_expanded, is_kept, within_limits-restless}
 use Rattle.table_symmetry.proofs.table_reader.finish.Goals as goal
 use Rattle.table_symmetry.proofs.table_reader.finish.Goals.{After-zeros_become}

@@ -1,6 +1,4 @@
-use Rattle.std.proofs.Common.{◌≡◌, take}
-use Rattle.worlds.specs.Step.{nine_zeros}
-use Rattle.table_symmetry.specs.NextState.{inputs_of}
+use Rattle.table_symmetry.proofs.Names.{inputs_of, nine_zeros, take, ◌≡◌}
 use Rattle.table_symmetry.proofs.table_reader.zeros_become.Goals as goal
 
 pub returns : goal.returns

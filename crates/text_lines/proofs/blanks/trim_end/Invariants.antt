@@ -1,5 +1,4 @@
-use Rattle.std.proofs.Common.{◌≡◌, length}
-use Rattle.text_lines.specs.Blanks.{trim_end}
+use Rattle.text_lines.proofs.Names.{length, trim_end, ◌≡◌}
 use Rattle.text_lines.proofs.blanks.trim_end.Given as goal
 
 abbrev pub invariant-loop-left : goal.invariant-loop-left

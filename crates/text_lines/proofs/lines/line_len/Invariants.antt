@@ -1,5 +1,4 @@
-use Rattle.std.proofs.Common.{◌≡◌, ◌+◌, drop}
-use Rattle.text_lines.specs.Lines.{line_len}
+use Rattle.text_lines.proofs.Names.{drop, line_len, ◌+◌, ◌≡◌}
 use Rattle.text_lines.proofs.lines.line_len.Given as goal
 
 abbrev pub invariant-loop-i : goal.invariant-loop-i

@@ -1,7 +1,4 @@
-use Rattle.std.proofs.Common.{◌≡◌, ◌-◌, ◌^◌, min, take, true}
-use Rattle.std.specs.List.{list_all}
-use Rattle.std.specs.Char.{is_ascii_digit}
-use Rattle.std.specs.Str.Parse.{digits_value}
+use Rattle.text_lines.proofs.Names.{digits_value, is_ascii_digit, list_all, min, take, true, ◌-◌, ◌^◌, ◌≡◌}
 use Rattle.text_lines.proofs.numbers.number.Given as goal
 
 abbrev pub invariant-loop-digit : goal.invariant-loop-digit

@@ -1,7 +1,5 @@
-use Rattle.std.proofs.Common.{◌-◌, length, get_or, take, drop, None, arith}
-use Rattle.std.proofs.lemmas.List.{nil_from_length}
+use Rattle.tree_translation.proofs.Names.{AreLayersOf, None, arith, drop, get_or, length, nil_from_length, take, ◌-◌}
 use Rattle.std.proofs.lemmas.Slice.{first_rest}
-use Rattle.tree_translation.specs.Layers.{AreLayersOf}
 use Rattle.tree_translation.proofs.Layering.{AreLayersOf-none, AreLayersOf-more}
 use Rattle.tree_translation.proofs.layers.+layers_of.Goals as goal
 

@@ -1,9 +1,5 @@
-use Rattle.std.proofs.Common.{None, arith, rules, ◌≡◌, ◌∙◌, Some, length, ap, refl}
-use Rattle.std.proofs.lemmas.List.{length_push}
-use Rattle.std.proofs.lemmas.Option.{get_or_from_slice_get, slice_get_within}
+use Rattle.tree_translation.proofs.Names.{None, Some, Tail, ap, arith, asked_at, get_or_from_slice_get, length, length_push, refl, rules, same_asked, slice_get_within, ◌∙◌, ◌≡◌}
 use Rattle.std.proofs.lemmas.Slice.Zip.{zip_end, zip_turn}
-use Rattle.tree_translation.specs.declared.layers.Tail.{Tail}
-use Rattle.tree_translation.specs.Layers.{asked_at, same_asked}
 use Rattle.tree_translation.proofs.Layering.{AreTails-more, IsNextTail, all-rows, asked-same, grown-insert_key, same_from_tail, same_tail}
 use Rattle.tree_translation.proofs.layers.layer_of.Goals as goal
 

@@ -1,5 +1,4 @@
-use Rattle.std.proofs.Common.{◌≡◌, ℕ, ◌+◌, ◌/◌, ◌%◌, ◌^◌, sym, ap, ◌∙◌, add-zero, arith}
-use Rattle.std.specs.Int.{bit_at}
+use Rattle.tree_translation.proofs.Names.{add-zero, ap, arith, bit_at, sym, ℕ, ◌%◌, ◌+◌, ◌/◌, ◌^◌, ◌∙◌, ◌≡◌}
 use Rattle.std.proofs.lemmas.Nat.{shr-shr}
 use Rattle.tree_translation.proofs.near.bits_alike.Goals as goal
 

@@ -1,7 +1,4 @@
-use Rattle.std.proofs.Common.{◌≡◌, ◌≢◌, ℕ, ◌≤◌, ◌/◌, ◌^◌, zero, suc, refl, ap, sym, ◌∙◌, arith}
-use Rattle.std.specs.Prelude.{bit_and}
-use Rattle.std.specs.Int.{bit_at}
-use Rattle.std.proofs.lemmas.Nat.Bits.{bit_at-lt, bit_at-trailing_ones, bit_at-trailing_zeros, bit_at-zero, bit_at_ones, shr_and_one}
+use Rattle.tree_translation.proofs.Names.{ap, arith, bit_and, bit_at, bit_at-lt, bit_at-trailing_ones, bit_at-trailing_zeros, bit_at-zero, bit_at_ones, refl, shr_and_one, suc, sym, zero, ℕ, ◌/◌, ◌^◌, ◌∙◌, ◌≡◌, ◌≢◌, ◌≤◌}
 use Rattle.tree_translation.proofs.near.lowest_alike.Goals as goal
 use mir.Syntax.{w64}
 

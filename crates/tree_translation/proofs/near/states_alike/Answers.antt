@@ -1,10 +1,4 @@
-use Rattle.std.proofs.Common.{◌≡◌, ◌+◌, ◌*◌, ◌/◌, ◌%◌, ◌<◌, ℕ, get_or, arith}
-use Rattle.std.specs.Prelude.{◌==◌}
-use Rattle.std.specs.Int.{bit_at}
-use Rattle.std.proofs.lemmas.List.{take_all}
-use Rattle.std.proofs.lemmas.List.Elements.{All-more}
-use Rattle.tree_translation.specs.Layers.{lets}
-use Rattle.tree_translation.specs.Near.{TreatsAlike}
+use Rattle.tree_translation.proofs.Names.{All-more, TreatsAlike, arith, bit_at, get_or, lets, take_all, ℕ, ◌%◌, ◌*◌, ◌+◌, ◌/◌, ◌<◌, ◌==◌, ◌≡◌}
 use Rattle.tree_translation.proofs.TailsNear.{alike-bits}
 use Rattle.tree_translation.proofs.near.states_alike.Goals as goal
 

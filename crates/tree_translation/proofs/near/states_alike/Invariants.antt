@@ -1,5 +1,4 @@
-use Rattle.std.proofs.Common.{◌≤◌, ◌+◌, ◌%◌, All, take}
-use Rattle.tree_translation.specs.Near.{TreatsAlike}
+use Rattle.tree_translation.proofs.Names.{All, TreatsAlike, take, ◌%◌, ◌+◌, ◌≤◌}
 use Rattle.tree_translation.proofs.near.states_alike.Given as goal
 
 abbrev pub invariant-loop-number : goal.invariant-loop-number

@@ -1,5 +1,4 @@
-use Rattle.std.proofs.Common.{ℕ, Vec, Global, get_or, take, ap, ◌∙◌}
-use Rattle.std.proofs.lemmas.List.{take_more}
+use Rattle.tree_translation.proofs.Names.{Global, Vec, ap, get_or, take, take_more, ℕ, ◌∙◌}
 use Rattle.tree_translation.proofs.TailsNear.{lets-none, near-more, near-passed}
 use Rattle.tree_translation.proofs.near.tails_of_block.Goals as goal
 use Rattle.tree_translation.proofs.near.tails_of_block.Goals.{then-word-ne0+in_ok-push, else-word-ne0}

@@ -1,5 +1,4 @@
-use Rattle.std.proofs.Common.{take}
-use Rattle.tree_translation.specs.Near.{AreNear}
+use Rattle.tree_translation.proofs.Names.{AreNear, take}
 use Rattle.tree_translation.proofs.near.tails_of_block.Given as goal
 
 abbrev pub invariant-loop-number : goal.invariant-loop-number

@@ -1,16 +1,7 @@
-use Rattle.std.proofs.Common.{All, ◌/◌, ◌≤◌, ◌≡◌, ◌<◌, ◌+◌, ◌∙◌, ℕ, length, slice_index, slice_index_or, refl, sym, arith, rules}
-use Rattle.tree_translation.specs.declared.layers.Layer.{Layer}
-use Rattle.tree_translation.specs.declared.listed.Listed.{Listed}
-use Rattle.tree_translation.specs.declared.listed.Node.{Node}
-use Rattle.tree_translation.specs.declared.numbering.Found.{Found}
-use Rattle.tree_translation.specs.Layers.{IsLayer}
-use Rattle.tree_translation.specs.Near.{TreatsAlike}
-use Rattle.tree_translation.specs.Numbering.{AreFit, AreTailsAt, GrowsNodes, IsEntry, IsNumberOf}
-use Rattle.tree_translation.specs.Translation.{LeftOf}
+use Rattle.tree_translation.proofs.Names.{All, AreFit, AreTailsAt, Found, GrowsNodes, IsEntry, IsLayer, IsNumberOf, Layer, LeftOf, Listed, Node, TreatsAlike, arith, common_steps, get_or_default, length, refl, rules, slice_index}
+use Rattle.tree_translation.proofs.Names.{slice_index_or, sym, ℕ, ◌+◌, ◌/◌, ◌<◌, ◌∙◌, ◌≡◌, ◌≤◌}
 use Rattle.tree_translation.proofs.Apart.{passed-on}
 use Rattle.tree_translation.proofs.MadeNodes.{Grows-behind, IsEntry-append, entries-small, is-later, NeedsTooMany-behind, layer-before, layer-last, layer-room, made, too-many}
-use Rattle.std.proofs.lemmas.Grind.{common_steps}
-use Rattle.std.proofs.lemmas.List.{get_or_default}
 use Rattle.tree_translation.proofs.NodeLists.{each-filled}
 use Rattle.tree_translation.proofs.TailsNear.{LeftOf-alike}
 use Rattle.tree_translation.proofs.numbering.+numbering.Goals as goal

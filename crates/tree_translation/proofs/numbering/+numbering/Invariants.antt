@@ -1,7 +1,4 @@
-use Rattle.std.proofs.Common.{◌≡◌, ℕ, ◌+◌, ◌-◌, ◌*◌, ◌/◌, ◌%◌, ◌<◌, ◌≤◌, ◌≢◌, length, slice_index, false}
-use Rattle.std.specs.Prelude.{All, IfSome}
-use Rattle.tree_translation.specs.Near.{AreNear}
-use Rattle.tree_translation.specs.Numbering.{GrowsNodes, IsEntry, IsNumberOf}
+use Rattle.tree_translation.proofs.Names.{All, AreNear, GrowsNodes, IfSome, IsEntry, IsNumberOf, false, length, slice_index, ℕ, ◌%◌, ◌*◌, ◌+◌, ◌-◌, ◌/◌, ◌<◌, ◌≡◌, ◌≢◌, ◌≤◌}
 use Rattle.tree_translation.proofs.numbering.+numbering.Given as goal
 
 abbrev pub decreases-number_again : goal.decreases-number_again

@@ -1,7 +1,4 @@
-use Rattle.std.proofs.Common.{◌≡◌, ◌<◌, length, ap, sym, arith}
-use Rattle.std.proofs.lemmas.List.{get_or_read}
-use Rattle.tree_translation.specs.declared.layers.Tail.{Tail}
-use Rattle.tree_translation.specs.Layers.{rest_at}
+use Rattle.tree_translation.proofs.Names.{Tail, ap, arith, get_or_read, length, rest_at, sym, ◌<◌, ◌≡◌}
 use Rattle.tree_translation.proofs.TailsLeft.{found-again, found-more, found-passed}
 use Rattle.tree_translation.proofs.numbering.add_rest.Goals as goal
 use Rattle.tree_translation.proofs.numbering.add_rest.Goals.{After-index}

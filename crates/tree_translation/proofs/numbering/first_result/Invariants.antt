@@ -1,6 +1,4 @@
-use Rattle.std.proofs.Common.{◌≡◌, Some, None, drop, if◌then◌else◌}
-use Rattle.tree_translation.specs.Layers.{lets, rest_at}
-use Rattle.tree_translation.specs.Translation.{first_some}
+use Rattle.tree_translation.proofs.Names.{None, Some, drop, first_some, if◌then◌else◌, lets, rest_at, ◌≡◌}
 use Rattle.tree_translation.proofs.numbering.first_result.Given as goal
 
 abbrev pub invariant-loop-number : goal.invariant-loop-number

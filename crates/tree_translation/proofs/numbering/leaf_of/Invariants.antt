@@ -1,7 +1,4 @@
-use Rattle.std.proofs.Common.{◌≡◌, ℕ, ◌<◌, length, slice_index, unwrap_or, Some, None}
-use Rattle.std.specs.Prelude.{if◌then◌else◌}
-use Rattle.tree_translation.specs.Layers.{lets, rest_at}
-use Rattle.tree_translation.specs.Translation.{first_some}
+use Rattle.tree_translation.proofs.Names.{None, Some, first_some, if◌then◌else◌, length, lets, rest_at, slice_index, unwrap_or, ℕ, ◌<◌, ◌≡◌}
 use Rattle.tree_translation.proofs.numbering.leaf_of.Given as goal
 
 abbrev pub invariant-loop-state : goal.invariant-loop-state

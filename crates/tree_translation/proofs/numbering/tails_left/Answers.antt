@@ -1,5 +1,4 @@
-use Rattle.std.proofs.Common.{take}
-use Rattle.std.proofs.lemmas.List.{take_more}
+use Rattle.tree_translation.proofs.Names.{take, take_more}
 use Rattle.tree_translation.proofs.numbering.tails_left.Goals as goal
 
 pub loop-number-preserved : goal.loop-number-preserved

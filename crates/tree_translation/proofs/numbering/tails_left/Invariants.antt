@@ -1,5 +1,4 @@
-use Rattle.std.proofs.Common.{take}
-use Rattle.tree_translation.specs.TailsFound.{IsFound}
+use Rattle.tree_translation.proofs.Names.{IsFound, take}
 use Rattle.tree_translation.proofs.numbering.tails_left.Given as goal
 
 abbrev pub invariant-loop-number : goal.invariant-loop-number

@@ -1,6 +1,5 @@
-use Rattle.std.proofs.Common.{subst}
+use Rattle.tree_translation.proofs.Names.{AreMarked, subst}
 use Rattle.std.proofs.Math.ListN.{drop_of_length-le}
-use Rattle.tree_translation.specs.TailsFound.{AreMarked}
 use Rattle.tree_translation.proofs.TailsLeft.{none-marked}
 use Rattle.tree_translation.proofs.numbering.unmark.Goals as goal
 

@@ -1,5 +1,4 @@
-use Rattle.std.proofs.Common.{drop}
-use Rattle.tree_translation.specs.TailsFound.{AreMarked}
+use Rattle.tree_translation.proofs.Names.{AreMarked, drop}
 use Rattle.tree_translation.proofs.numbering.unmark.Given as goal
 
 abbrev pub invariant-loop-rest : goal.invariant-loop-rest

@@ -1,5 +1,4 @@
-use Rattle.std.proofs.Common.{◌≡◌, ◌≤◌, ◌-◌, ◌++◌, drop, length}
-use Rattle.tree_translation.specs.Packed.{spread_from}
+use Rattle.tree_translation.proofs.Names.{drop, length, spread_from, ◌++◌, ◌-◌, ◌≡◌, ◌≤◌}
 use Rattle.tree_translation.proofs.packed.add_runs.Given as goal
 
 -- the numbers of the runs that are left make them all

@@ -1,5 +1,4 @@
-use Rattle.std.proofs.Common.{◌≡◌, ◌++◌, drop}
-use Rattle.tree_translation.specs.Packed.{runs_from}
+use Rattle.tree_translation.proofs.Names.{drop, runs_from, ◌++◌, ◌≡◌}
 use Rattle.tree_translation.proofs.packed.runs_of.Given as goal
 
 -- the runs that are left make them all

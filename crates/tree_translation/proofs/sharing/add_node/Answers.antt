@@ -1,8 +1,4 @@
-use Rattle.std.proofs.Common.{arith}
-use Rattle.std.proofs.lemmas.Bool.{and_parts, eqb-true}
-use Rattle.std.proofs.lemmas.Grind.{common_steps}
-use Rattle.std.proofs.lemmas.Option.{get_or_from_slice_get, slice_get_within}
-use Rattle.std.proofs.lemmas.Slice.Eq.{bytes_eq-Decides}
+use Rattle.tree_translation.proofs.Names.{and_parts, arith, bytes_eq-Decides, common_steps, eqb-true, get_or_from_slice_get, slice_get_within}
 use Rattle.tree_translation.proofs.sharing.add_node.Goals as goal
 
 pub returns-clause-stored : goal.returns-clause-stored

@@ -1,9 +1,4 @@
-use Rattle.std.proofs.Common.{◌≡◌, ◌∙◌, ◌+◌, ◌++◌, ◌∷◌, [], length, take, arith}
-use Rattle.std.proofs.lemmas.List.{length-append, map_more}
-use Rattle.tree_translation.specs.declared.listed.Node.{Node}
-use Rattle.tree_translation.specs.Numbering.{entries_in}
-use Rattle.decision_tree.specs.Tree.{node_at}
-use Rattle.decision_tree.proofs.Shared.KeptNodes.{nodes_in-push}
+use Rattle.tree_translation.proofs.Names.{Node, [], arith, entries_in, length, length-append, map_more, node_at, nodes_in-push, take, ◌++◌, ◌+◌, ◌∙◌, ◌∷◌, ◌≡◌}
 use Rattle.tree_translation.proofs.MadeNodes.{length-listed, listed-at}
 use Rattle.tree_translation.proofs.sharing.joined.Goals as goal
 

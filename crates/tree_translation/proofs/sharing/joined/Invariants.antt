@@ -1,6 +1,4 @@
-use Rattle.std.proofs.Common.{◌≡◌, ◌*◌, length, take}
-use Rattle.decision_tree.specs.Kept.{nodes_in}
-use Rattle.tree_translation.specs.Numbering.{entries_in}
+use Rattle.tree_translation.proofs.Names.{entries_in, length, nodes_in, take, ◌*◌, ◌≡◌}
 use Rattle.tree_translation.proofs.sharing.joined.Given as goal
 
 abbrev pub invariant-loop-node : goal.invariant-loop-node

@@ -1,8 +1,5 @@
-use Rattle.std.proofs.Common.{◌≡◌, ◌<◌, ◌≤◌, ◌+◌, ◌-◌, ◌∙◌, length, arith}
+use Rattle.tree_translation.proofs.Names.{arith, entries_in, length, length-nodes_in, nodes_in, ◌+◌, ◌-◌, ◌<◌, ◌∙◌, ◌≡◌, ◌≤◌}
 use Rattle.table_symmetry.specs.RuleLaws.{zeros-below}
-use Rattle.decision_tree.specs.Kept.{nodes_in}
-use Rattle.tree_translation.specs.Numbering.{entries_in}
-use Rattle.decision_tree.proofs.Shared.KeptNodes.{length-nodes_in}
 use Rattle.tree_translation.proofs.MadeNodes.{length-listed}
 use Rattle.tree_translation.proofs.Translating.{may-keep, some-nodes, sound-tree, translates-kept}
 use Rattle.tree_translation.proofs.translation.finish.Goals as goal

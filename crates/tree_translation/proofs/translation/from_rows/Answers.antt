@@ -1,9 +1,4 @@
-use Rattle.std.proofs.Common.{◌≡◌, ◌∙◌, ◌+◌, length, ℕ, arith}
-use Rattle.tree_translation.specs.NodesNeeded.{NeedsNodes}
-use Rattle.tree_translation.specs.Starts.{NeedStarts}
-use Rattle.tree_translation.specs.Numbering.{entries_in}
-use Rattle.tree_translation.specs.Translation.{DoesRows, neighbors_of, node_limit, order_of, rows_give}
-use Rattle.decision_tree.specs.TreeLaws.{inputs-below}
+use Rattle.tree_translation.proofs.Names.{DoesRows, NeedStarts, NeedsNodes, arith, entries_in, inputs-below, length, neighbors_of, node_limit, order_of, rows_give, ℕ, ◌+◌, ◌∙◌, ◌≡◌}
 use Rattle.tree_translation.proofs.Apart.{passed-on}
 use Rattle.tree_translation.proofs.Beginnings.{needs-nodes}
 use Rattle.tree_translation.proofs.Translating.{as_many, rows-next}

@@ -1,11 +1,5 @@
-use Rattle.std.proofs.Common.{Bool, false, refl, ◌≡◌, ◌<◌, ◌+◌, ◌-◌, ◌∙◌, List, [], length, sym, ap, subst, arith, rules}
-use Rattle.std.proofs.lemmas.List.{get_or_default}
-use Rattle.std.proofs.lemmas.List.Elements.{All-nil, All-replicate}
-use Rattle.tree_translation.specs.declared.listed.Node.{Node}
-use Rattle.tree_translation.specs.Layers.{AreLayersOf}
-use Rattle.tree_translation.specs.Numbering.{IsLeft, entries_in}
-use Rattle.tree_translation.specs.Starts.{NeedStarts}
-use Rattle.tree_translation.specs.Translation.{node_limit, rows_give}
+use Rattle.tree_translation.proofs.Names.{All-nil, All-replicate, AreLayersOf, Bool, IsLeft, List, NeedStarts, Node, [], ap, arith, entries_in, false, get_or_default, length, node_limit, refl, rows_give, rules, subst, sym, ◌+◌, ◌-◌, ◌<◌}
+use Rattle.tree_translation.proofs.Names.{◌∙◌, ◌≡◌}
 use Rattle.tree_translation.proofs.Apart.{passed-on}
 use Rattle.tree_translation.proofs.MadeNodes.{length-listed, nodes-needed}
 use Rattle.tree_translation.proofs.Translating.{DoesRows-root, rows-outcome}

@@ -1,8 +1,7 @@
-use Rattle.std.proofs.Common.{◌≡◌, ◌∙◌, ◌+◌, ◌*◌, sym, ap, length, arith, rules}
+use Rattle.decision_tree.proofs.Names.{ap, arith, length, rules, sym, tree_of_kept, ◌*◌, ◌+◌, ◌∙◌, ◌≡◌}
 use Rattle.std.proofs.lemmas.Slice.Eq.{bytes_eq-Decides}
 use denote.Enum.Bare.{differs_false}
 use Rattle.decision_tree.specs.contracts.tree.Neighbors.{the_type}
-use Rattle.decision_tree.specs.Kept.{tree_of_kept}
 use Rattle.decision_tree.proofs.SameTrees.{entries_same, roots_same}
 use Rattle.decision_tree.proofs.tree.TreeRule.equals.Goals as goal
 

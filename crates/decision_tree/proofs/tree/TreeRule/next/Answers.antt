@@ -1,5 +1,4 @@
-use Rattle.std.proofs.Common.{◌∙◌, ap}
-use Rattle.decision_tree.specs.Tree.{next}
+use Rattle.decision_tree.proofs.Names.{ap, next, ◌∙◌}
 use Rattle.decision_tree.proofs.Following.{next-kept, stores-kept}
 use Rattle.decision_tree.proofs.tree.TreeRule.next.Goals as goal
 

@@ -1,5 +1,4 @@
-use Rattle.dependency_book.specs.declared.row.RowState.TheVariants.{Empty}
-use Rattle.dependency_book.specs.Rows.{ArrivalRow}
+use Rattle.dependency_book.proofs.Names.{ArrivalRow, Empty}
 use Rattle.dependency_book.proofs.Found.{step_row}
 use Rattle.dependency_book.proofs.book.Book.before.Goals as goal
 

@@ -1,9 +1,5 @@
-use Rattle.std.proofs.Common.{subst}
-use Rattle.std.proofs.lemmas.Result.{IfOk-weaker}
+use Rattle.dependency_book.proofs.Names.{IfOk-weaker, Mark, Step, StepsTo, View, subst}
 use Rattle.revision_jobs.specs.declared.entry.Entry.TheVariants as entry
-use Rattle.desk_events.specs.declared.mark.Mark.{Mark}
-use Rattle.desk_events.specs.declared.need.Need.TheVariants.{Step, View}
-use Rattle.dependency_book.specs.Entered.{StepsTo}
 use Rattle.dependency_book.proofs.Entering.{entry_workable}
 use Rattle.dependency_book.proofs.book.Book.entry.Goals as goal
 

@@ -1,8 +1,4 @@
-use Rattle.std.proofs.Common.{◌∙◌, ap, inr}
-use Rattle.schedule.specs.Asked.{asked_of}
-use Rattle.dependency_book.specs.BookState.{BookState}
-use Rattle.desk_events.specs.Felt.{felt_from}
-use Rattle.desk_events.proofs.Shared.Tests.{clash}
+use Rattle.dependency_book.proofs.Names.{BookState, ap, asked_of, clash, felt_from, inr, ◌∙◌}
 use Rattle.dependency_book.proofs.book.Book.felt.Goals as goal
 
 pub returns : goal.returns

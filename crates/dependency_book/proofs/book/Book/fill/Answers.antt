@@ -1,7 +1,5 @@
-use Rattle.std.proofs.Common.{◌≡◌, sym, subst}
+use Rattle.dependency_book.proofs.Names.{TakesAnswer, clash, subst, sym, ◌≡◌}
 use Rattle.dependency_book.specs.declared.filled.Filled.TheVariants.{Row}
-use Rattle.dependency_book.specs.Called.{TakesAnswer}
-use Rattle.desk_events.proofs.Shared.Tests.{clash}
 use Rattle.dependency_book.proofs.Recalled.{Filling, filled_alone, filled_then, took}
 use Rattle.dependency_book.proofs.book.Book.fill.Goals.{in-Row, in_default}
 use Rattle.dependency_book.proofs.book.Book.fill.Goals as goal

@@ -1,10 +1,4 @@
-use Rattle.std.proofs.Common.{◌≡◌, ◌∙◌, ap, Some}
-use Rattle.std.specs.Prelude.{◌↔◌, IsTrue}
-use Rattle.std.proofs.lemmas.Result.{IfOk-weaker}
-use Rattle.schedule.specs.Asked.{asked_of}
-use Rattle.dependency_book.specs.BookState.{BookState}
-use Rattle.dependency_book.specs.Felt.{BookIsUnfelt, BookIsUnfeltWhere}
-use Rattle.desk_events.specs.Felt.{touched_by}
+use Rattle.dependency_book.proofs.Names.{BookIsUnfelt, BookIsUnfeltWhere, BookState, IfOk-weaker, IsTrue, Some, ap, asked_of, touched_by, ◌↔◌, ◌∙◌, ◌≡◌}
 use Rattle.dependency_book.proofs.Unfelt.{unfelt_later}
 use Rattle.dependency_book.proofs.book.Book.is_unfelt.Goals as goal
 

@@ -1,5 +1,4 @@
-use Rattle.std.proofs.Common.{◌∙◌, Some, sym, ap}
-use Rattle.worlds.specs.World.{World}
+use Rattle.dependency_book.proofs.Names.{Some, World, ap, sym, ◌∙◌}
 use Rattle.dependency_book.proofs.book.Book.is_unfelt_at.Goals as goal
 
 pub returns-in-Some : goal.returns-in-Some

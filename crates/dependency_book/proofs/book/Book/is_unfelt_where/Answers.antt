@@ -1,10 +1,4 @@
-use Rattle.std.proofs.Common.{◌∙◌, false, refl, sym, ap, subst}
-use Rattle.schedule.specs.Acts.{generations_to}
-use Rattle.schedule.specs.Asked.{asked_of}
-use Rattle.schedule.specs.Branches.{reach}
-use Rattle.dependency_book.specs.BookState.{BookState}
-use Rattle.dependency_book.specs.Felt.{BookIsUnfeltAt}
-use Rattle.desk_events.proofs.Shared.Tests.{clash}
+use Rattle.dependency_book.proofs.Names.{BookIsUnfeltAt, BookState, ap, asked_of, clash, false, generations_to, reach, refl, subst, sym, ◌∙◌}
 use Rattle.dependency_book.proofs.Unfelt.{each_done, each_felt, each_next, where_each}
 use Rattle.dependency_book.proofs.book.Book.is_unfelt_where.Goals as goal
 

@@ -1,6 +1,4 @@
-use Rattle.std.specs.Prelude.{◌↔◌}
-use Rattle.schedule.specs.Asked.{asked_of}
-use Rattle.dependency_book.specs.Felt.{BookIsUnfeltWhere}
+use Rattle.dependency_book.proofs.Names.{BookIsUnfeltWhere, asked_of, ◌↔◌}
 use Rattle.dependency_book.proofs.Unfelt.{IsUnfeltEach}
 use Rattle.dependency_book.proofs.book.Book.is_unfelt_where.Given as goal
 

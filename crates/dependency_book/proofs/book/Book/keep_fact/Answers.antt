@@ -1,10 +1,4 @@
-use Rattle.std.proofs.Common.{◌≡◌, ◌∙◌, Some, ap, refl, subst, sym}
-use Rattle.std.specs.Prelude.{slice_get}
-use Rattle.desk_events.specs.Entry.{steps}
-use Rattle.dependency_book.specs.BookState.{BookState}
-use Rattle.dependency_book.specs.Inside.{state_of}
-use Rattle.dependency_book.specs.Right.{IsGiven}
-use Rattle.dependency_book.specs.Said.{said, step_said}
+use Rattle.dependency_book.proofs.Names.{BookState, IsGiven, Some, ap, refl, said, slice_get, state_of, step_said, steps, subst, sym, ◌∙◌, ◌≡◌}
 use Rattle.dependency_book.proofs.Recalled.{given_too}
 use Rattle.dependency_book.proofs.book.Book.keep_fact.Goals as goal
 

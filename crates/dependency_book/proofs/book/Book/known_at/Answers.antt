@@ -1,15 +1,6 @@
-use Rattle.std.proofs.Common.{◌≡◌, false, ◌∙◌, Some, refl, sym, ap, Option}
-use Rattle.worlds.specs.World.{World}
-use Rattle.ranked_rows.specs.Rows.{row_at}
-use Rattle.desk_events.specs.declared.mark.Mark.{Mark}
-use Rattle.desk_events.specs.Marks.{is_start}
-use Rattle.dependency_book.specs.BookState.{BookState, arrival_known}
-use Rattle.dependency_book.specs.RowState.{known}
-use Rattle.dependency_book.specs.Rows.{ArrivalRow, by_key}
-use Rattle.document_marks.specs.AllMarks.{mark_rank}
+use Rattle.dependency_book.proofs.Names.{ArrivalRow, BookState, Mark, Option, Some, World, ap, arrival_known, by_key, false, is_start, known, mark_rank, refl, row_at, state_of, sym, ◌∙◌, ◌≡◌}
 use Rattle.dependency_book.proofs.Placed.{arrival_in}
 use Rattle.dependency_book.proofs.Standing.{state_in}
-use Rattle.dependency_book.specs.Inside.{state_of}
 use Rattle.dependency_book.proofs.book.Book.known_at.Goals as goal
 
 -- what is known at a mark is what the row of its rank says

@@ -1,9 +1,4 @@
-use Rattle.std.proofs.Common.{◌≡◌, None, Option, refl, sym, subst}
-use Rattle.std.specs.Prelude.{IfNone}
-use Rattle.desk_events.specs.declared.need.Need.{Need}
-use Rattle.dependency_book.specs.BookState.{BookState, NothingOut, pending_of}
-use Rattle.dependency_book.specs.Held.{places_of}
-use Rattle.dependency_book.specs.Needs.{IsNextView}
+use Rattle.dependency_book.proofs.Names.{BookState, IfNone, IsNextView, Need, None, NothingOut, Option, pending_of, places_of, refl, subst, sym, ◌≡◌}
 use Rattle.dependency_book.proofs.Outs.{held_by}
 use Rattle.dependency_book.proofs.Needed.{none_pending}
 use Rattle.dependency_book.proofs.book.Book.next_need.Goals as goal

@@ -1,11 +1,4 @@
-use Rattle.std.proofs.Common.{◌≤◌, ap, arith, length, rules}
-use Rattle.std.specs.Prelude.{count_by}
-use Rattle.std.proofs.lemmas.List.{length-map}
-use Rattle.std.proofs.lemmas.List.Sums.{count_by-le-length}
-use Rattle.dependency_book.specs.BookState.{BookState, is_pending}
-use Rattle.dependency_book.specs.Rows.{TextRow}
-use Rattle.dependency_book.specs.Inside.{state_of}
-use Rattle.dependency_book.specs.Right.{IsRightBook}
+use Rattle.dependency_book.proofs.Names.{BookState, IsRightBook, TextRow, ap, arith, count_by, count_by-le-length, is_pending, length, length-map, rules, state_of, ◌≤◌}
 use Rattle.dependency_book.proofs.book.Book.pending.Goals as goal
 
 -- no more texts are pending than there are bookmarks

@@ -1,8 +1,4 @@
-use Rattle.std.proofs.Common.{subst}
-use Rattle.std.specs.Arc.{arc_value}
-use Rattle.revision_jobs.specs.Value.{text}
-use Rattle.dependency_book.specs.declared.row.RowState.TheVariants.{Known}
-use Rattle.dependency_book.specs.Puts.{CanBePut}
+use Rattle.dependency_book.proofs.Names.{CanBePut, Known, arc_value, subst, text}
 use Rattle.dependency_book.proofs.Putting.{step_no_text}
 use Rattle.dependency_book.proofs.book.Book.put_bytes.Goals as goal
 

@@ -1,8 +1,4 @@
-use Rattle.std.proofs.Common.{subst}
-use Rattle.std.specs.Arc.{arc_value}
-use Rattle.revision_jobs.specs.Value.{pattern}
-use Rattle.dependency_book.specs.declared.row.RowState.TheVariants.{Known}
-use Rattle.dependency_book.specs.Puts.{CanBePut}
+use Rattle.dependency_book.proofs.Names.{CanBePut, Known, arc_value, pattern, subst}
 use Rattle.dependency_book.proofs.Putting.{view_no_pattern}
 use Rattle.dependency_book.proofs.book.Book.put_plane.Goals as goal
 

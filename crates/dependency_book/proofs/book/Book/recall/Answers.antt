@@ -1,21 +1,7 @@
-use Rattle.std.proofs.Common.{◌≡◌, ◌∙◌, List, sym, subst, Option, Some}
-use Rattle.std.specs.Prelude.{IfSome}
-use Rattle.std.specs.Arc.{arc_value}
-use Rattle.std.specs.declared.alloc.Global.{Global}
-use Rattle.std.specs.declared.sync.Arc.{Arc}
-use Rattle.std.specs.Option.{option_map}
-use Rattle.worlds.specs.World.{World}
-use Rattle.step_facts.specs.Known.{Fact, known}
-use Rattle.desk_events.specs.declared.mark.Mark.{Mark}
-use Rattle.dependency_book.specs.Entered.{StepsTo}
-use Rattle.dependency_book.specs.Needs.{IsLedTo}
+use Rattle.dependency_book.proofs.Names.{Arc, AreGiven, BookState, CanBePut, Empty, Fact, Global, IfSome, IsLedTo, Known, List, Mark, Option, PutsRow, Some, StepsTo, WasGiven, World, arc_value, option_map, pattern, row_of, step_to, subst}
+use Rattle.dependency_book.proofs.Names.{sym, world_after, ◌∙◌, ◌≡◌}
+use Rattle.step_facts.specs.Known.{known}
 use Rattle.revision_jobs.specs.declared.entry.Step.{Step as Stepping}
-use Rattle.revision_jobs.specs.Value.{pattern, world_after}
-use Rattle.dependency_book.specs.declared.row.RowState.TheVariants.{Empty, Known}
-use Rattle.dependency_book.specs.BookState.{BookState, row_of}
-use Rattle.desk_events.specs.Needs.{step_to}
-use Rattle.dependency_book.specs.Puts.{CanBePut, PutsRow}
-use Rattle.dependency_book.specs.Recalled.{AreGiven, WasGiven}
 use Rattle.dependency_book.proofs.Recalled.{CanBeEntered, can_enter, entered, given_before}
 use Rattle.dependency_book.proofs.Working.{may_change}
 use Rattle.dependency_book.proofs.book.Book.recall.Goals as goal

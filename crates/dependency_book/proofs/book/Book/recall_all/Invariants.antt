@@ -1,6 +1,4 @@
-use Rattle.std.proofs.Common.{◌≡◌, length}
-use Rattle.dependency_book.specs.Recalled.{EntersSteps}
-use Rattle.dependency_book.specs.Right.{IsRightBook}
+use Rattle.dependency_book.proofs.Names.{EntersSteps, IsRightBook, length, ◌≡◌}
 use Rattle.dependency_book.proofs.book.Book.recall_all.Given as goal
 
 abbrev pub invariant-loop-place : goal.invariant-loop-place

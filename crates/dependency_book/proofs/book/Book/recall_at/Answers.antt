@@ -1,6 +1,4 @@
-use Rattle.std.proofs.Common.{◌∙◌, ap, sym}
-use Rattle.revision_jobs.specs.Value.{pattern}
-use Rattle.dependency_book.specs.RowState.{state_map}
+use Rattle.dependency_book.proofs.Names.{ap, pattern, state_map, sym, ◌∙◌}
 use Rattle.dependency_book.proofs.Found.{held_back}
 use Rattle.dependency_book.proofs.Needed.{steps_there}
 use Rattle.dependency_book.proofs.book.Book.recall_at.Goals as goal

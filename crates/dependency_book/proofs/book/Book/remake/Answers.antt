@@ -1,8 +1,4 @@
-use Rattle.std.proofs.Common.{ℕ, ◌≤◌, arith}
-use Rattle.schedule.specs.Asked.{asked_of}
-use Rattle.dependency_book.specs.BookState.{BookState}
-use Rattle.dependency_book.specs.Inside.{state_of}
-use Rattle.document_marks.proofs.Shared.Grown.{is_within}
+use Rattle.dependency_book.proofs.Names.{BookState, arith, asked_of, is_within, state_of, ℕ, ◌≤◌}
 use Rattle.dependency_book.specs.declared.room.Room.{Room}
 use Rattle.dependency_book.specs.Room.{HasPlaces}
 use Rattle.dependency_book.proofs.Outs.{all_own, held_by}

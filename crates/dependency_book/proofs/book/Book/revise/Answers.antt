@@ -1,7 +1,4 @@
-use Rattle.std.proofs.Common.{◌∙◌, Ok, ap, sym}
-use Rattle.schedule.specs.Change.{made}
-use Rattle.schedule.specs.Plan.{Plan}
-use Rattle.schedule.specs.Asked.{asked_of}
+use Rattle.dependency_book.proofs.Names.{Ok, Plan, ap, asked_of, made, sym, ◌∙◌}
 use Rattle.dependency_book.proofs.Revised.{edits_call}
 use Rattle.dependency_book.proofs.Shared.Recalling.{recalls_book}
 use Rattle.dependency_book.proofs.book.Book.revise.Goals as goal

@@ -1,5 +1,4 @@
-use Rattle.std.proofs.Common.{◌∙◌, Some, refl, sym, ap, arith}
-use Rattle.desk_events.proofs.Shared.Marks.{comes_le}
+use Rattle.dependency_book.proofs.Names.{Some, ap, arith, comes_le, refl, sym, ◌∙◌}
 use Rattle.dependency_book.proofs.book.Book.step_to.Goals as goal
 
 pub returns-clause-step : goal.returns-clause-step

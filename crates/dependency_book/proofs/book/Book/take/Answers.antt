@@ -1,6 +1,4 @@
-use Rattle.std.proofs.Common.{◌≡◌, true, false, Option, None, Some, MatchOption, refl, sym, subst}
-use Rattle.revision_jobs.specs.Answer.{result_in}
-use Rattle.dependency_book.specs.Called.{TakesAnswer}
+use Rattle.dependency_book.proofs.Names.{MatchOption, None, Option, Some, TakesAnswer, false, refl, result_in, subst, sym, true, ◌≡◌}
 use Rattle.dependency_book.proofs.Working.{IsAwaited, answer_takes, elsewhere, may_stand, none_numbered, none_takes}
 use Rattle.dependency_book.proofs.book.Book.take.Goals as goal
 use Rattle.dependency_book.proofs.book.Book.take.Goals.{in_default-2, in_default}

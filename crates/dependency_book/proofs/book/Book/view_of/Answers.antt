@@ -1,5 +1,4 @@
-use Rattle.std.proofs.Common.{◌∙◌, Some, refl, sym, ap}
-use Rattle.worlds.specs.World.{World}
+use Rattle.dependency_book.proofs.Names.{Some, World, ap, refl, sym, ◌∙◌}
 use Rattle.dependency_book.proofs.Found.{has_view_row, view_row}
 use Rattle.dependency_book.proofs.book.Book.view_of.Goals as goal
 

@@ -1,8 +1,4 @@
-use Rattle.std.proofs.Common.{◌∙◌, sym, subst}
-use Rattle.schedule.specs.Ids.{IdsRise}
-use Rattle.dependency_book.specs.Kept.{mark_stays}
-use Rattle.dependency_book.specs.Rows.{IsRanked}
-use Rattle.document_marks.specs.AllMarks.{mark_rank}
+use Rattle.dependency_book.proofs.Names.{IdsRise, IsRanked, mark_rank, mark_stays, subst, sym, ◌∙◌}
 use Rattle.dependency_book.proofs.Remaking.{keys-remade}
 use Rattle.dependency_book.proofs.Standing.{ranked_by}
 use Rattle.dependency_book.proofs.room.Room.rows_of.Goals as goal

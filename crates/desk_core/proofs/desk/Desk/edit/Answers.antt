@@ -1,13 +1,9 @@
-use Rattle.std.proofs.Common.{◌≡◌, ◌∙◌, ap, subst, sym, Result, Ok, Err}
-use Rattle.std.specs.Prelude.{IfOk, OnErr, OnOk}
+use Rattle.desk_core.proofs.Names.{BookState, Err, IfOk, Ok, OnErr, OnOk, Result, Revises, ap, recalls_book, subst, sym, ◌∙◌, ◌≡◌}
 use Rattle.schedule.specs.declared.edit.Edited.{Edited}
 use Rattle.schedule.specs.declared.fault.EditFault.{EditFault}
 use Rattle.schedule.specs.Asked.{Asked, asked_of}
-use Rattle.dependency_book.specs.BookState.{BookState}
 use Rattle.schedule.specs.Change.{change, made}
 use Rattle.dependency_book.specs.Called.{IsEdit}
-use Rattle.dependency_book.specs.Recalled.{Revises}
-use Rattle.dependency_book.proofs.Shared.Recalling.{recalls_book}
 use Rattle.desk_core.specs.Edited.{Makes}
 use Rattle.desk_core.proofs.desk.Desk.edit.Goals as goal
 

@@ -1,10 +1,5 @@
-use Rattle.std.proofs.Common.{◌≡◌, subst, sym, rules}
-use Rattle.revision_jobs.specs.declared.answer.Job.{Job}
+use Rattle.desk_core.proofs.Names.{BookState, Empty, IsNextJob, IssuesFor, Job, row_of, rules, subst, sym, ◌≡◌}
 use Rattle.revision_jobs.specs.declared.entries.Place.{Place}
-use Rattle.dependency_book.specs.BookState.{BookState, row_of}
-use Rattle.dependency_book.specs.Jobs.{IsNextJob}
-use Rattle.dependency_book.specs.declared.row.RowState.TheVariants.{Empty}
-use Rattle.desk_core.specs.Issued.{IssuesFor}
 use Rattle.desk_core.proofs.desk.Desk.issue_for.Goals as goal
 
 pub returns-clause-issued : goal.returns-clause-issued

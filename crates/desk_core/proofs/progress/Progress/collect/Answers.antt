@@ -1,8 +1,4 @@
-use Rattle.std.proofs.Common.{◌≡◌, arith, refl, ap, subst, Option, Some}
-use Rattle.std.specs.Prelude.{IfSome, unwrap_or}
-use Rattle.desk_core.specs.declared.cause.Cause.{Cause}
-use Rattle.desk_core.specs.declared.progress.Progress.{Progress}
-use Rattle.desk_core.specs.Progress.{CancelsAny, job_in}
+use Rattle.desk_core.proofs.Names.{CancelsAny, Cause, IfSome, Option, Progress, Some, ap, arith, job_in, refl, subst, unwrap_or, ◌≡◌}
 use Rattle.desk_core.proofs.Steps.{GoesOn-answered, GoesOn-cancelled, GoesOn-on, tells-answered, tells-released, wanting-collected}
 use Rattle.desk_core.proofs.progress.Progress.collect.Goals as goal
 

@@ -1,9 +1,4 @@
-use Rattle.std.proofs.Common.{◌≡◌, sym, ap, subst, ◌∙◌, refl}
-use Rattle.dependency_book.specs.Jobs.{IsAnyOut}
-use Rattle.desk_core.specs.declared.unsent.Unsent.{Unsent}
-use Rattle.desk_core.specs.declared.unsent.Unsent.TheVariants.{Ready}
-use Rattle.desk_core.specs.declared.progress.Progress.{Progress}
-use Rattle.desk_core.specs.Progress.{Advances, GoesOn, job_in, stage}
+use Rattle.desk_core.proofs.Names.{Advances, GoesOn, IsAnyOut, Progress, Ready, Unsent, ap, job_in, refl, stage, subst, sym, ◌∙◌, ◌≡◌}
 use Rattle.desk_core.proofs.Steps.{GoesOn-on, GoesOn-told}
 use Rattle.desk_core.proofs.Turns.{advances-received, fewer-nothing, fewer-waiting}
 use Rattle.desk_core.proofs.progress.Progress.exchange.Goals as goal

@@ -1,5 +1,4 @@
-use Rattle.std.proofs.Common.{inl, refl, ap, length, ◌∙◌}
-use Rattle.std.proofs.lemmas.List.{length-append}
+use Rattle.desk_core.proofs.Names.{ap, inl, length, length-append, refl, ◌∙◌}
 use Rattle.desk_core.proofs.Looks.{looked_at}
 use Rattle.desk_core.proofs.Steps.{GoesOn-idle, Idles-ended, Idles-nothing}
 use Rattle.desk_core.proofs.progress.Progress.receive.Goals as goal

@@ -1,5 +1,4 @@
-use Rattle.std.proofs.Common.{arith}
-use Rattle.desk_core.specs.Progress.{stage}
+use Rattle.desk_core.proofs.Names.{arith, stage}
 use Rattle.desk_core.proofs.Looks.{looked_at, looks_first, looks_then}
 use Rattle.desk_core.proofs.Steps.{HasCome-first, none_before}
 use Rattle.desk_core.proofs.Turns.{asked-on, done-at_end, ended-at_end, turns-at_first, turns-spent, turns-on}

@@ -1,7 +1,4 @@
-use Rattle.std.proofs.Common.{◌≡◌, ◌≤◌, ◌+◌, ◌*◌, None}
-use Rattle.desk_core.specs.Looks.{LooksOn}
-use Rattle.desk_core.specs.Progress.{HasCome, stage, turns_from}
-use Rattle.desk_core.specs.Settling.{GivesAtMost, HoldsAllOut, rows_of}
+use Rattle.desk_core.proofs.Names.{GivesAtMost, HasCome, HoldsAllOut, LooksOn, None, rows_of, stage, turns_from, ◌*◌, ◌+◌, ◌≡◌, ◌≤◌}
 use Rattle.desk_core.proofs.progress.Progress.run.Given as goal
 
 abbrev pub invariant-loop : goal.invariant-loop

@@ -1,8 +1,4 @@
-use Rattle.std.proofs.Common.{◌≡◌, refl, ap, subst, Some}
-use Rattle.revision_jobs.specs.declared.answer.Job.{Job}
-use Rattle.revision_jobs.specs.declared.post.Sent.TheVariants.{Taken, Full, Closed}
-use Rattle.desk_core.specs.declared.progress.Progress.{Progress}
-use Rattle.desk_core.specs.Progress.{Cancels, job_in, ready, stage}
+use Rattle.desk_core.proofs.Names.{Cancels, Closed, Full, Job, Progress, Some, Taken, ap, job_in, ready, refl, stage, subst, ◌≡◌}
 use Rattle.desk_core.proofs.Steps.{GoesOn-cancelled, GoesOn-idle, GoesOn-on, GoesOn-sent, Idles-refused}
 use Rattle.desk_core.proofs.progress.Progress.send.Goals as goal
 

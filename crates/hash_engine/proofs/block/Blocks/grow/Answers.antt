@@ -1,7 +1,4 @@
-use Rattle.std.proofs.Common.{◌≡◌, ℕ, zero, suc, List, [], ◌∷◌, ◌++◌, length, get_or, take, replicate, refl, ap, arith}
-use Rattle.std.specs.Prelude.{Bool, true, false, if◌then◌else◌}
-use Rattle.hash_engine.specs.Blocks.{no_block}
-use Rattle.hash_engine.specs.declared.block.Block.{Block}
+use Rattle.hash_engine.proofs.Names.{Block, Bool, List, [], ap, arith, false, get_or, if◌then◌else◌, length, no_block, refl, replicate, suc, take, true, zero, ℕ, ◌++◌, ◌∷◌, ◌≡◌}
 use Rattle.hash_engine.proofs.block.Blocks.grow.Goals as goal
 
 -- blocks without results

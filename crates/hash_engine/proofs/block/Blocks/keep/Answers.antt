@@ -1,9 +1,4 @@
-use Rattle.std.proofs.Common.{ℕ, ◌<◌, List, length, get_or, sym, subst, inl, inr, rules}
-use Rattle.std.proofs.Math.ListN.{set}
-use Rattle.std.proofs.lemmas.Bool.{cases_eq}
-use Rattle.std.proofs.lemmas.List.{get_or-set_same, get_or-set_other}
-use Rattle.hash_engine.specs.Blocks.{IsKnownBlock, AreKnownBlocks, no_block}
-use Rattle.hash_engine.specs.declared.block.Block.{Block}
+use Rattle.hash_engine.proofs.Names.{AreKnownBlocks, Block, IsKnownBlock, List, cases_eq, get_or, get_or-set_other, get_or-set_same, inl, inr, length, no_block, rules, set, subst, sym, ℕ, ◌<◌}
 use Rattle.hash_engine.proofs.block.Blocks.keep.Goals as goal
 
 kept : (next : List ℕ → ℕ) (rows : List (List ℕ)) (blocks : List Block) (place : ℕ) (b : Block) → place < length blocks → AreKnownBlocks next rows blocks →

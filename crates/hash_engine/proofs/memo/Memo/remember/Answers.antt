@@ -1,6 +1,4 @@
-use Rattle.std.proofs.Common.{ℕ, ◌-◌, get_or, refl, ap, ◌∙◌, arith}
-use Rattle.std.proofs.lemmas.List.{get_or-set_other}
-use Rattle.square_table.specs.Squares.{Table, first_number}
+use Rattle.hash_engine.proofs.Names.{Table, ap, first_number, get_or, get_or-set_other, refl, ◌-◌, ◌∙◌}
 use Rattle.hash_engine.proofs.memo.Memo.remember.Goals as goal
 
 pub returns-then-generations-full-clause-noted : goal.returns-then-generations-full-clause-noted

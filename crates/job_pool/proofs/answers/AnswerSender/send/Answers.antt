@@ -1,7 +1,4 @@
-use Rattle.std.proofs.Common.{sym, subst, Option}
-use Rattle.revision_jobs.specs.Posted.{IsOwnAnswer}
-use Rattle.job_pool.specs.declared.answer_rule.Terms.{Terms}
-use Rattle.job_pool.specs.Home.{IsAnswerOf}
+use Rattle.job_pool.proofs.Names.{IsAnswerOf, IsOwnAnswer, Option, Terms, subst, sym}
 use Rattle.job_pool.proofs.Homes.{gives}
 use Rattle.job_pool.proofs.answers.AnswerSender.send.Goals as goal
 

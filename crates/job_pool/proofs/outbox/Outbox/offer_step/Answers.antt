@@ -1,5 +1,4 @@
-use Rattle.std.proofs.Common.{◌∙◌, ◌≤◌, ap, subst, sym}
-use Rattle.job_queue.specs.Slips.{floor_of, slip_of}
+use Rattle.job_pool.proofs.Names.{ap, floor_of, slip_of, subst, sym, ◌∙◌, ◌≤◌}
 use Rattle.job_pool.proofs.Splits.{floor_then, then_split_step}
 use Rattle.job_pool.proofs.outbox.Outbox.offer_step.Goals as goal
 

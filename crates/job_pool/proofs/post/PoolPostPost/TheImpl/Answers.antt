@@ -1,12 +1,7 @@
-use Rattle.std.proofs.Common.{◌∙◌, refl, List, ap, true≢false, sym}
+use Rattle.job_pool.proofs.Names.{IsOffered, IsSent, List, PostHistory, Slip, ap, floor_of, floor_push, refl, slip_of, sym, true≢false, ◌∙◌}
 use Rattle.revision_jobs.specs.declared.answer.Job.{Job}
 use Rattle.revision_jobs.specs.declared.post.Sent.{Sent}
 use Rattle.revision_jobs.specs.declared.post.Sent.TheVariants.{Taken, Full, Closed}
-use Rattle.revision_jobs.specs.Posted.{IsSent, PostHistory}
-use Rattle.job_queue.specs.declared.rule.Slip.{Slip}
-use Rattle.job_queue.specs.Ends.{IsOffered}
-use Rattle.job_queue.specs.Slips.{floor_of, slip_of}
-use Rattle.job_queue.proofs.Shared.Once.{floor_push}
 use Rattle.job_pool.proofs.post.PoolPostPost.TheImpl.Goals as goal
 
 -- what an offer does to the sender's list, it does to the floor

@@ -1,8 +1,4 @@
-use Rattle.std.proofs.Common.{◌∙◌, ◌≡◌, ap, List, ◌++◌, ◌∷◌, rules}
-use Rattle.worlds.specs.Live.{place_of}
-use Rattle.multistate_rle.specs.declared.token.Token.{Token}
-use Rattle.multistate_rle.specs.Token.{way, joined, tokens, behind}
-use Rattle.multistate_rle.specs.Writing.{finished}
+use Rattle.multistate_rle.proofs.Names.{List, Token, ap, behind, finished, joined, place_of, rules, tokens, way, ◌++◌, ◌∙◌, ◌∷◌, ◌≡◌}
 use Rattle.multistate_rle.proofs.Runs.{GoesOn, breaks, begins}
 use Rattle.multistate_rle.proofs.body.Body.advance.Goals as goal
 

@@ -1,10 +1,4 @@
-use Rattle.std.proofs.Common.{◌∙◌, ◌≡◌, sym, ap, ◌++◌, ◌∷◌, [], ℕ, ◌≤◌, List, length, arith, map, rules, OnOk}
-use Rattle.std.proofs.lemmas.Result.{on_ok_weaker}
-use Rattle.worlds.specs.World.{Place}
-use Rattle.worlds.specs.Live.{of_cell, place_of}
-use Rattle.multistate_rle.specs.declared.token.Token.{Token}
-use Rattle.multistate_rle.specs.Token.{way, joined, tokens, behind}
-use Rattle.multistate_rle.specs.Writing.{finished, tokens_on}
+use Rattle.multistate_rle.proofs.Names.{List, OnOk, Place, Token, [], ap, arith, behind, finished, joined, length, map, of_cell, on_ok_weaker, place_of, rules, sym, tokens, tokens_on, way, ℕ, ◌++◌, ◌∙◌, ◌∷◌, ◌≡◌, ◌≤◌}
 use Rattle.multistate_rle.proofs.Runs.{begins, cells_done}
 use Rattle.multistate_rle.proofs.body.Body.push_cells.Goals as goal
 

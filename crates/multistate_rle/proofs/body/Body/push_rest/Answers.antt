@@ -1,5 +1,4 @@
-use Rattle.std.proofs.Common.{◌∷◌, [], length, ◌≤◌, arith}
-use Rattle.std.proofs.lemmas.Result.{on_ok_weaker}
+use Rattle.multistate_rle.proofs.Names.{[], arith, length, on_ok_weaker, ◌∷◌, ◌≤◌}
 use Rattle.multistate_rle.specs.declared.token.Token.TheVariants.{End}
 use Rattle.multistate_rle.proofs.Runs.{cells_done}
 use Rattle.multistate_rle.proofs.body.Body.push_rest.Goals as goal

@@ -1,6 +1,4 @@
-use Rattle.std.proofs.Common.{◌≡◌, ◌+◌, ◌≤◌, drop, map}
-use Rattle.worlds.specs.Live.{of_cell}
-use Rattle.multistate_rle.specs.Writing.{finished, tokens_on}
+use Rattle.multistate_rle.proofs.Names.{drop, finished, map, of_cell, tokens_on, ◌+◌, ◌≡◌, ◌≤◌}
 use Rattle.multistate_rle.proofs.body.Body.push_rest.Given as goal
 
 abbrev pub invariant-loop-cell : goal.invariant-loop-cell

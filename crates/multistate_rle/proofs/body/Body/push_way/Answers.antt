@@ -1,6 +1,4 @@
-use Rattle.std.proofs.Common.{arith, ◌≡◌, ◌++◌, rules}
-use Rattle.std.proofs.lemmas.Result.{on_ok_weaker}
-use Rattle.multistate_rle.specs.Token.{distance, zeros}
+use Rattle.multistate_rle.proofs.Names.{arith, distance, on_ok_weaker, rules, zeros, ◌++◌, ◌≡◌}
 use Rattle.multistate_rle.proofs.Runs.{way_rows}
 use Rattle.multistate_rle.proofs.body.Body.push_way.Goals as goal
 

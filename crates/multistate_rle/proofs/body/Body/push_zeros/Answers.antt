@@ -1,8 +1,5 @@
-use Rattle.std.proofs.Common.{◌≡◌, ◌∙◌, sym, ap, ◌++◌, ◌∷◌, [], arith}
-use Rattle.std.proofs.lemmas.Result.{on_ok_weaker}
-use Rattle.multistate_rle.specs.Writing.{finished}
+use Rattle.multistate_rle.proofs.Names.{[], ap, arith, finished, on_ok_weaker, sym, zeros, ◌++◌, ◌∙◌, ◌∷◌, ◌≡◌}
 use Rattle.multistate_rle.specs.declared.token.Token.TheVariants.{Run}
-use Rattle.multistate_rle.specs.Token.{zeros}
 use Rattle.multistate_rle.proofs.body.Body.push_zeros.Goals as goal
 
 pub returns : goal.returns

@@ -1,7 +1,5 @@
-use Rattle.std.proofs.Common.{◌≡◌, ◌∙◌, ◌&&◌, ℤ, ◌+◌, ◌-◌, ◌+ℤ◌, ◌-ℤ◌, pos, arith, rules, SFits, to_z, of_z}
-use Rattle.std.proofs.lemmas.Int.{ints}
+use Rattle.multistate_rle.proofs.Names.{SFits, arith, ints, is_in_range, of_z, pos, rules, to_z, ℤ, ◌&&◌, ◌+ℤ◌, ◌+◌, ◌-ℤ◌, ◌-◌, ◌∙◌, ◌≡◌}
 use mir.Syntax.{w64, w128}
-use Rattle.multistate_rle.specs.Pattern.{is_in_range}
 use Rattle.multistate_rle.proofs.drawing.Drawing.has_room.Goals as goal
 
 -- a number of 128 bits, as the code passes it on

@@ -1,8 +1,4 @@
-use Rattle.std.proofs.Common.{◌≡◌, ◌∙◌, ◌++◌, false, inl, sym, ap, arith, rules, Result, Ok, Err, OnOk, is_err, w64, SFits}
-use Rattle.std.proofs.lemmas.Int.{ints}
-use Rattle.std.proofs.lemmas.Result.{on_ok_weaker}
-use Rattle.plane_core.specs.Spans.{cells_of_spans}
-use Rattle.multistate_rle.specs.Pattern.{Strip}
+use Rattle.multistate_rle.proofs.Names.{Err, Ok, OnOk, Result, SFits, Strip, ap, arith, cells_of_spans, false, inl, ints, is_err, on_ok_weaker, rules, sym, w64, ◌++◌, ◌∙◌, ◌≡◌}
 use Rattle.multistate_rle.proofs.Strips.{lies_within, span-strip, spans-push}
 use Rattle.multistate_rle.proofs.drawing.Drawing.keep_strip.Goals as goal
 

@@ -1,6 +1,4 @@
-use Rattle.std.proofs.Common.{arith, ◌∙◌, sym, ap, rules}
-use Rattle.worlds.specs.Range.{IsBoundingBox}
-use Rattle.multistate_rle.specs.Frame.{frame_of}
+use Rattle.multistate_rle.proofs.Names.{IsBoundingBox, ap, arith, frame_of, rules, sym, ◌∙◌}
 use Rattle.multistate_rle.proofs.Boxes.{box_of_blank, box_of_live, same_frame}
 use Rattle.multistate_rle.proofs.frame.Frame.around.Goals as goal
 

@@ -1,5 +1,4 @@
-use Rattle.std.proofs.Common.{◌≡◌, ◌+◌, ◌<◌, ◌^◌, length}
-use Rattle.multistate_rle.specs.Symbols.{solid_from}
+use Rattle.multistate_rle.proofs.Names.{length, solid_from, ◌+◌, ◌<◌, ◌^◌, ◌≡◌}
 use Rattle.multistate_rle.proofs.solid.SolidBytes.next.Given as goal
 
 abbrev pub invariant-loop-self : goal.invariant-loop-self

@@ -1,9 +1,4 @@
-use Rattle.std.proofs.Common.{arith}
-use Rattle.schedule.specs.Kept.{plan_of}
-use Rattle.std.specs.Prelude.{if◌then◌else◌, ◌==◌}
-use Rattle.std.proofs.lemmas.List.{length-map, with_items_is}
-use Rattle.schedule.specs.declared.document.Intervention.{Intervention}
-use Rattle.schedule.specs.Change.{acting}
+use Rattle.schedule.proofs.Names.{Intervention, acting, arith, if◌then◌else◌, length-map, plan_of, with_items_is, ◌==◌}
 use Rattle.schedule.proofs.Unrefused.{fit_change}
 use Rattle.schedule.proofs.SoundLists.{IsSound-changed_intervention}
 use Rattle.schedule.proofs.document.Document.change_intervention.Goals as goal

@@ -1,7 +1,4 @@
-use Rattle.std.proofs.Common.{arith}
-use Rattle.std.specs.Prelude.{if◌then◌else◌, ◌==◌}
-use Rattle.schedule.specs.declared.document.Intervention.{Intervention}
-use Rattle.schedule.specs.Branches.{reach}
+use Rattle.schedule.proofs.Names.{Intervention, arith, if◌then◌else◌, reach, ◌==◌}
 use Rattle.schedule.proofs.Tallies.{tally-marks}
 use Rattle.schedule.proofs.document.Document.marks_changed.Goals as goal
 

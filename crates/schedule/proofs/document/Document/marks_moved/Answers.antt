@@ -1,7 +1,4 @@
-use Rattle.std.proofs.Common.{arith}
-use Rattle.schedule.specs.declared.document.Intervention.{Intervention}
-use Rattle.schedule.specs.Branches.{reach}
-use Rattle.schedule.specs.Change.{with_moved_bookmark}
+use Rattle.schedule.proofs.Names.{Intervention, arith, reach, with_moved_bookmark}
 use Rattle.schedule.proofs.Tallies.{tally-marks}
 use Rattle.schedule.proofs.document.Document.marks_moved.Goals as goal
 

@@ -1,6 +1,4 @@
-use Rattle.std.proofs.Common.{arith}
-use Rattle.schedule.specs.declared.document.Intervention.{Intervention}
-use Rattle.schedule.specs.Repeats.{reach_with}
+use Rattle.schedule.proofs.Names.{Intervention, arith, reach_with}
 use Rattle.schedule.proofs.Tallies.{tally-marks}
 use Rattle.schedule.proofs.document.Document.marks_with.Goals as goal
 

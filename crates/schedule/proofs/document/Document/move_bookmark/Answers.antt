@@ -1,9 +1,4 @@
-use Rattle.std.proofs.Common.{arith}
-use Rattle.schedule.specs.Kept.{plan_of}
-use Rattle.std.specs.Prelude.{if◌then◌else◌, ◌==◌}
-use Rattle.std.proofs.lemmas.List.{length-map, with_items_is}
-use Rattle.schedule.specs.declared.document.Bookmark.{Bookmark}
-use Rattle.schedule.specs.Change.{marking}
+use Rattle.schedule.proofs.Names.{Bookmark, arith, if◌then◌else◌, length-map, marking, plan_of, with_items_is, ◌==◌}
 use Rattle.schedule.proofs.SoundLists.{IsSound-moved_bookmark}
 use Rattle.schedule.proofs.document.Document.move_bookmark.Goals as goal
 

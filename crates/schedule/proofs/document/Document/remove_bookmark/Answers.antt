@@ -1,5 +1,4 @@
-use Rattle.std.proofs.Common.{arith}
-use Rattle.schedule.specs.Kept.{plan_of}
+use Rattle.schedule.proofs.Names.{arith, plan_of}
 use Rattle.schedule.proofs.SoundLists.{IsSound-removed_bookmark}
 use Rattle.schedule.proofs.document.Document.remove_bookmark.Goals as goal
 

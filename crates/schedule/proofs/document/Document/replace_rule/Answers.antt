@@ -1,6 +1,4 @@
-use Rattle.std.proofs.Common.{arith}
-use Rattle.schedule.specs.Kept.{plan_of}
-use Rattle.std.specs.Arc.{arc_value}
+use Rattle.schedule.proofs.Names.{arc_value, arith, plan_of}
 use Rattle.schedule.proofs.Sounds.{IsSound-rule}
 use Rattle.schedule.proofs.Unrefused.{fit_rule}
 use Rattle.schedule.proofs.document.Document.replace_rule.Goals as goal

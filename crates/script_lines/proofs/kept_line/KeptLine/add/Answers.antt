@@ -1,5 +1,4 @@
-use Rattle.std.proofs.Common.{arith}
-use Rattle.std.proofs.lemmas.Grind.{common_steps}
+use Rattle.script_lines.proofs.Names.{arith, common_steps}
 use Rattle.script_lines.proofs.Keeping.{holds_blank, holds_more, holds_cut}
 use Rattle.script_lines.proofs.kept_line.KeptLine.add.Goals as goal
 

@@ -1,6 +1,4 @@
-use Rattle.std.proofs.Common.{rules, ◌∙◌, ◌≡◌, ◌≢◌, ap, take, length, refl}
-use Rattle.text_lines.specs.Blanks.{trim_end}
-use Rattle.script_lines.specs.declared.kept_line.Tail.TheVariants.{Cut}
+use Rattle.script_lines.proofs.Names.{Cut, ap, length, refl, rules, take, trim_end, ◌∙◌, ◌≡◌, ◌≢◌}
 use Rattle.script_lines.proofs.Trims.{take_trim_end}
 use Rattle.script_lines.proofs.Keeping.{says_cut, says_kept}
 use Rattle.script_lines.proofs.kept_line.KeptLine.close.Goals as goal

@@ -1,6 +1,4 @@
-use Rattle.std.proofs.Common.{◌≡◌, sym, ap, ◌∙◌, [], Some}
-use Rattle.std.specs.Option.{option_copied}
-use Rattle.std.specs.List.{slice_get}
+use Rattle.script_lines.proofs.Names.{Some, [], ap, option_copied, slice_get, sym, ◌∙◌, ◌≡◌}
 use Rattle.script_lines.proofs.Keeping.{get-none, passed_blank, passed_first}
 use Rattle.script_lines.proofs.kept_line.KeptLine.is_passed_over.Goals as goal
 

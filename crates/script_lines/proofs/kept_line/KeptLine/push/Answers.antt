@@ -1,6 +1,4 @@
-use Rattle.std.proofs.Common.{◌≡◌, ◌==◌, [], sym, ◌∙◌, arith, true, false, rules}
-use Rattle.std.proofs.lemmas.Grind.{common_steps}
-use Rattle.text_lines.specs.Blanks.{is_blank}
+use Rattle.script_lines.proofs.Names.{[], arith, common_steps, false, is_blank, rules, sym, true, ◌==◌, ◌∙◌, ◌≡◌}
 use Rattle.script_lines.proofs.Keeping.{took_none, took_gap, took_more}
 use Rattle.script_lines.proofs.kept_line.KeptLine.push.Goals as goal
 use Rattle.script_lines.proofs.kept_line.KeptLine.push.Goals.{else-is_empty-via-then-is_empty+else-is_blank, else-is_empty-via-else-is_empty, else-self-via-then-self+else-byte-eq32, else-self-via-else-self}

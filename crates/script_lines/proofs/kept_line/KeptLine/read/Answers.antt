@@ -1,5 +1,4 @@
-use Rattle.std.proofs.Common.{rules, ◌∙◌, ◌≡◌, ◌==◌, false}
-use Rattle.script_lines.specs.Input.{ahead}
+use Rattle.script_lines.proofs.Names.{ahead, false, rules, ◌==◌, ◌∙◌, ◌≡◌}
 use Rattle.script_lines.proofs.Shared.Ahead.{takes_byte, takes_kept}
 use Rattle.script_lines.proofs.Reading.{reads_on}
 use Rattle.script_lines.proofs.kept_line.KeptLine.read.Goals as goal

@@ -1,5 +1,4 @@
-use Rattle.std.proofs.Common.{◌≡◌}
-use Rattle.script_lines.specs.Input.{ahead, bytes_left}
+use Rattle.script_lines.proofs.Names.{ahead, bytes_left, ◌≡◌}
 use Rattle.script_lines.proofs.Reading.{IsReading}
 use Rattle.script_lines.proofs.kept_line.KeptLine.read.Given as goal
 

@@ -1,6 +1,4 @@
-use Rattle.std.proofs.Common.{◌≢◌, ap, ◌∙◌, rules}
-use Rattle.script_lines.specs.Words.{words}
-use Rattle.script_lines.specs.declared.kept_line.Tail.TheVariants.{Cut}
+use Rattle.script_lines.proofs.Names.{Cut, ap, rules, words, ◌∙◌, ◌≢◌}
 use Rattle.script_lines.proofs.Keeping.{kept_words}
 use Rattle.script_lines.proofs.kept_line.KeptLine.words.Goals as goal
 

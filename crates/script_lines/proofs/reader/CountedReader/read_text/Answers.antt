@@ -1,5 +1,4 @@
-use Rattle.std.proofs.Common.{◌≡◌, ◌≢◌, true, false, rules, ◌∙◌, sym, ap, take}
-use Rattle.std.specs.Option.{option_map}
+use Rattle.script_lines.proofs.Names.{ap, false, option_map, rules, sym, take, true, ◌∙◌, ◌≡◌, ◌≢◌}
 use Rattle.script_lines.specs.declared.kept_line.Found.TheVariants.{End, Last, Line}
 use Rattle.script_lines.proofs.Shared.Known.{on_err}
 use Rattle.script_lines.proofs.Shared.Taking.{text_breaks, text_ends_at, text_goes_on_at, text_stops_at, text_stops_last_at, found_falls}

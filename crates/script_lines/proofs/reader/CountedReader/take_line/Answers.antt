@@ -1,6 +1,4 @@
-use Rattle.std.proofs.Common.{subst, refl}
-use Rattle.script_lines.specs.Input.{ahead}
-use Rattle.script_lines.specs.Script.{TakesInto, StopsInLine}
+use Rattle.script_lines.proofs.Names.{StopsInLine, TakesInto, ahead, refl, subst}
 use Rattle.script_lines.proofs.Shared.Ahead.{ahead_is}
 use Rattle.script_lines.proofs.Shared.Known.{on_err, is_drawn}
 use Rattle.script_lines.proofs.Shared.Taking.{takes_into, stops_in_line}

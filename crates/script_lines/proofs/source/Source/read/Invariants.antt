@@ -1,5 +1,4 @@
-use Rattle.std.proofs.Common.{◌≡◌}
-use Rattle.std.specs.Io.KnownBytes.{Keeps}
+use Rattle.script_lines.proofs.Names.{Keeps, ◌≡◌}
 use Rattle.script_lines.proofs.source.Source.read.Given as goal
 
 abbrev pub invariant-loop : goal.invariant-loop

@@ -1,5 +1,4 @@
-use Rattle.std.proofs.Common.{◌≡◌, sym, ap, subst, arith, drop, ◌∙◌}
-use Rattle.std.proofs.lemmas.Grind.{common_steps}
+use Rattle.script_lines.proofs.Names.{ap, arith, common_steps, drop, subst, sym, ◌∙◌, ◌≡◌}
 use Rattle.script_lines.proofs.Shared.Told.{goes_on, stays, IsUnderWay}
 use Rattle.script_lines.proofs.writer.CountedWriter.tell.Goals as goal
 use Rattle.script_lines.proofs.writer.CountedWriter.tell.Goals.{in-Ok, in-Err+else-ne}

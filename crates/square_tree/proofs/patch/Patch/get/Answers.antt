@@ -1,7 +1,4 @@
-use Rattle.std.proofs.Common.{◌≡◌, pos, ◌+ℤ◌, sym, ap, ◌∙◌, arith}
-use Rattle.std.proofs.lemmas.Int.{ints}
-use Rattle.square_tree.specs.Quadtree.{quadtree}
-use Rattle.square_tree.specs.Cells.{Cells, least, state_at}
+use Rattle.square_tree.proofs.Names.{Cells, ap, arith, ints, least, pos, quadtree, state_at, sym, ◌+ℤ◌, ◌∙◌, ◌≡◌}
 use Rattle.square_tree.proofs.Mapped.{get_at}
 use Rattle.square_tree.proofs.patch.Patch.get.Goals as goal
 

@@ -1,9 +1,5 @@
-use Rattle.std.proofs.Common.{◌≡◌, ◌≤◌, ℕ, ap, subst, ◌∙◌, arith}
+use Rattle.square_tree.proofs.Names.{Cells, IsPartlyOverlaid, ap, arith, cells_of, overlaid, place_cmp, quadtree, subst, ℕ, ◌∙◌, ◌≡◌, ◌≤◌}
 use Rattle.std.specs.FinMap as finite
-use Rattle.square_tree.specs.Place.{place_cmp}
-use Rattle.square_tree.specs.Quadtree.{quadtree}
-use Rattle.square_tree.specs.Cells.{Cells, overlaid, IsPartlyOverlaid}
-use Rattle.square_tree.specs.Entries.{cells_of}
 use Rattle.square_tree.proofs.Covered.{on_ok, on_err}
 use Rattle.square_tree.proofs.Shared.Quarters.{reach_mono}
 use Rattle.square_tree.proofs.Mapped.{states_of-laid, partly_overlaid}

@@ -1,7 +1,5 @@
-use Rattle.std.proofs.Common.{ap, ℕ}
+use Rattle.square_tree.proofs.Names.{Cells, ap, place_cmp, ℕ}
 use Rattle.std.specs.FinMap as finite
-use Rattle.square_tree.specs.Place.{place_cmp}
-use Rattle.square_tree.specs.Cells.{Cells}
 use Rattle.square_tree.proofs.Mapped.{states_of-keep}
 use Rattle.square_tree.proofs.patch.Patch.new.Goals as goal
 

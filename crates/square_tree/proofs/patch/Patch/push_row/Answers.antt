@@ -1,6 +1,4 @@
-use Rattle.std.proofs.Common.{◌≡◌, ◌∙◌, sym, ap, ◌+◌, ◌++◌, ◌∷◌, [], pos, ◌+ℤ◌, unwrap_or, rules, append_assoc, to_z, of_z, w64, SFits}
-use Rattle.std.proofs.lemmas.Int.{to_z-of_z}
-use Rattle.square_tree.specs.Cells.{state_at, row_states}
+use Rattle.square_tree.proofs.Names.{SFits, [], ap, append_assoc, of_z, pos, row_states, rules, state_at, sym, to_z, to_z-of_z, unwrap_or, w64, ◌++◌, ◌+ℤ◌, ◌+◌, ◌∙◌, ◌∷◌, ◌≡◌}
 use Rattle.square_tree.proofs.Windows.{row-more, spanned_fits}
 use Rattle.square_tree.proofs.patch.Patch.push_row.Goals as goal
 

@@ -1,5 +1,4 @@
-use Rattle.std.proofs.Common.{◌≡◌, ◌++◌}
-use Rattle.square_tree.specs.Cells.{row_states}
+use Rattle.square_tree.proofs.Names.{row_states, ◌++◌, ◌≡◌}
 use Rattle.square_tree.proofs.patch.Patch.push_row.Given as goal
 
 abbrev pub invariant-loop-column : goal.invariant-loop-column

@@ -1,8 +1,5 @@
-use Rattle.std.proofs.Common.{◌≡◌, ℕ, pos, ◌+ℤ◌, ap, ◌∙◌, arith}
-use Rattle.std.proofs.lemmas.Int.{ints}
+use Rattle.square_tree.proofs.Names.{Cells, ap, arith, ints, least, place_cmp, pos, put, ℕ, ◌+ℤ◌, ◌∙◌, ◌≡◌}
 use Rattle.std.specs.FinMap as finite
-use Rattle.square_tree.specs.Place.{place_cmp}
-use Rattle.square_tree.specs.Cells.{Cells, least, put}
 use Rattle.square_tree.proofs.Covered.{on_ok}
 use Rattle.square_tree.proofs.Mapped.{states_of-set}
 use Rattle.square_tree.proofs.patch.Patch.set.Goals as goal

@@ -1,7 +1,4 @@
-use Rattle.std.proofs.Common.{subst}
-use Rattle.square_tree.specs.Cells.{Cells}
-use Rattle.square_tree.specs.Quadtree.{quadtree}
-use Rattle.square_tree.specs.TreeOf.{IsTreeOf}
+use Rattle.square_tree.proofs.Names.{Cells, IsTreeOf, quadtree, subst}
 use Rattle.square_tree.proofs.Mapped.{tree_of}
 use Rattle.square_tree.proofs.patch.Patch.tree.Goals as goal
 

@@ -1,6 +1,4 @@
-use Rattle.std.proofs.Common.{◌≡◌, ◌≤◌, ◌∙◌, sym, ap, ◌+◌, ◌++◌, pos, ◌+ℤ◌, rules, to_z, of_z, w64, SFits, arith}
-use Rattle.std.proofs.lemmas.Int.{to_z-of_z}
-use Rattle.square_tree.specs.Cells.{Cells, row_states, window_states}
+use Rattle.square_tree.proofs.Names.{Cells, SFits, ap, arith, of_z, pos, row_states, rules, sym, to_z, to_z-of_z, w64, window_states, ◌++◌, ◌+ℤ◌, ◌+◌, ◌∙◌, ◌≡◌, ◌≤◌}
 use Rattle.square_tree.proofs.Windows.{window-more, spanned, spanned_fits}
 use Rattle.square_tree.proofs.patch.Patch.window.Goals as goal
 

@@ -1,5 +1,4 @@
-use Rattle.std.proofs.Common.{◌≡◌}
-use Rattle.square_tree.specs.Cells.{window_states}
+use Rattle.square_tree.proofs.Names.{window_states, ◌≡◌}
 use Rattle.square_tree.proofs.patch.Patch.window.Given as goal
 
 abbrev pub invariant-loop-row : goal.invariant-loop-row

@@ -1,7 +1,4 @@
-use Rattle.std.proofs.Common.{◌≡◌, ◌∙◌, ap, map}
-use Rattle.worlds.specs.World.{cell, blank}
-use Rattle.worlds.specs.Lay.{lay}
-use Rattle.worlds.specs.Live.{live, of_cell}
+use Rattle.step_engine.proofs.Names.{ap, blank, cell, lay, live, map, of_cell, ◌∙◌, ◌≡◌}
 use Rattle.step_engine.proofs.Mentions.{set_of, sets_by_place}
 use Rattle.step_engine.proofs.Rooms.{held_with_room}
 use Rattle.step_engine.proofs.Together.{inside_sets, lay-sets, together-sets}

@@ -1,6 +1,4 @@
-use Rattle.std.proofs.Common.{◌≡◌, ◌∙◌, sym, ap, true, false, arith}
-use Rattle.std.proofs.lemmas.Int.{ints}
-use Rattle.worlds.specs.World.{World, cell}
+use Rattle.step_engine.proofs.Names.{World, ap, arith, cell, false, ints, sym, true, ◌∙◌, ◌≡◌}
 use Rattle.step_engine.proofs.Together.{dead_outside}
 use Rattle.step_engine.proofs.generation.Generation.state.Goals as goal
 

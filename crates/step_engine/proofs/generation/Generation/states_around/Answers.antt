@@ -1,7 +1,4 @@
-use Rattle.std.proofs.Common.{◌≡◌, ◌∙◌, sym, ap₂, arith, ◌<◌, ◌++◌, ◌≤◌, [], ◌∷◌, get_or, length, ℕ, List, pos}
-use Rattle.std.proofs.lemmas.Int.{ints}
-use Rattle.std.proofs.lemmas.List.{take_more, take_more_set, take_all, length-set}
-use Rattle.worlds.specs.Step.{around}
+use Rattle.step_engine.proofs.Names.{List, [], ap₂, arith, around, get_or, ints, length, length-set, pos, sym, take_all, take_more, take_more_set, ℕ, ◌++◌, ◌<◌, ◌∙◌, ◌∷◌, ◌≡◌, ◌≤◌}
 use Rattle.worlds.proofs.Shared.Cells.{same_cell}
 use Rattle.step_engine.proofs.Offsets.{near_at, state_at}
 use Rattle.step_engine.proofs.generation.Generation.states_around.Goals as goal

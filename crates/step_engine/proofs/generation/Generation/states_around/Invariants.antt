@@ -1,5 +1,4 @@
-use Rattle.std.proofs.Common.{◌≡◌, take, length}
-use Rattle.worlds.specs.Step.{around}
+use Rattle.step_engine.proofs.Names.{around, length, take, ◌≡◌}
 use Rattle.step_engine.proofs.generation.Generation.states_around.Given as goal
 
 abbrev pub invariant-loop-i : goal.invariant-loop-i

@@ -1,6 +1,4 @@
-use Rattle.std.proofs.Common.{rules, ◌-◌, refl, sym, ap, ◌∙◌, arith}
-use Rattle.worlds.specs.Iterate.{iterate, iterate-zero}
-use Rattle.worlds.specs.Step.{step}
+use Rattle.step_engine.proofs.Names.{ap, arith, iterate, iterate-zero, refl, rules, step, sym, ◌-◌, ◌∙◌}
 use Rattle.step_engine.proofs.Evolving.{CanEvolve-later, iterate-more}
 use Rattle.step_engine.proofs.kept.Engine.by_leaps.Goals as goal
 

@@ -1,6 +1,4 @@
-use Rattle.std.proofs.Common.{◌≡◌, ◌+◌, ◌-◌, ◌*◌, ◌≤◌}
-use Rattle.worlds.specs.Iterate.{iterate}
-use Rattle.worlds.specs.Step.{step}
+use Rattle.step_engine.proofs.Names.{iterate, step, ◌*◌, ◌+◌, ◌-◌, ◌≡◌, ◌≤◌}
 use Rattle.step_engine.proofs.kept.Engine.by_leaps.Given as goal
 
 abbrev pub invariant-loop-left : goal.invariant-loop-left

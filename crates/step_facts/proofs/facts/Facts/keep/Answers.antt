@@ -1,7 +1,4 @@
 use Rattle.std.proofs.Common.{◌≡◌, List, Some, ap, subst, sym, ◌∙◌}
-use Rattle.std.specs.Arc.{arc_value}
-use Rattle.revision_jobs.specs.declared.entry.Step.{Step}
-use Rattle.revision_jobs.specs.Value.{world_after}
 use Rattle.step_facts.specs.declared.key.Key.{Key}
 use Rattle.step_facts.specs.Kept.{facts_of}
 use Rattle.step_facts.specs.Known.{AddsOnly, Fact, known}

@@ -1,12 +1,8 @@
-use Rattle.std.proofs.Common.{◌≡◌, sym, ap, ◌∙◌, rules}
-use Rattle.std.specs.Cmp.Lexicographic.{pointwise}
-use Rattle.std.proofs.lemmas.Bool.{and_parts, eqb-true}
-use Rattle.std.proofs.lemmas.Slice.Eq.{slice_eq-Decides}
+use Rattle.table_lines.proofs.Names.{Table, and_parts, ap, eqb-true, headed, pointwise, rules, slice_eq-Decides, sym, ◌∙◌, ◌≡◌}
 use denote.Enum.Bare.{same_true}
 use Rattle.table_lines.specs.contracts.neighborhood.Neighborhood as neighborhood
 use Rattle.table_lines.specs.contracts.symmetry.Symmetry as symmetry
 use Rattle.table_lines.specs.Equality.{same_transition, same_transition-decides}
-use Rattle.table_lines.specs.Table.{Table, headed}
 use Rattle.table_lines.proofs.lines.TableLines.equals.Goals as goal
 
 pub returns-then-eq : goal.returns-then-eq

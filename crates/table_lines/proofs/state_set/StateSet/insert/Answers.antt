@@ -1,5 +1,4 @@
-use Rattle.std.proofs.Common.{arith, refl}
-use Rattle.std.proofs.lemmas.Nat.{or_lt}
+use Rattle.table_lines.proofs.Names.{arith, or_lt, refl}
 use Rattle.table_lines.proofs.Sets.{AreWords-set, inserted}
 use Rattle.table_lines.proofs.state_set.StateSet.insert.Goals as goal
 

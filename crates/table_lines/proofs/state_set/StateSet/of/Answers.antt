@@ -1,7 +1,4 @@
-use Rattle.std.proofs.Common.{ap, ◌∙◌, ◌||◌, eqb, arith, List, ℕ}
-use Rattle.std.proofs.Math.Bool.{or-false}
-use Rattle.table_lines.specs.States.{has}
-use Rattle.table_lines.specs.StateWords.{rising-agree, rising_one}
+use Rattle.table_lines.proofs.Names.{List, ap, arith, eqb, has, or-false, rising-agree, rising_one, ℕ, ◌||◌, ◌∙◌}
 use Rattle.table_lines.proofs.state_set.StateSet.of.Goals as goal
 
 pub returns : goal.returns

@@ -1,7 +1,6 @@
-use Rattle.std.proofs.Common.{◌≡◌, ◌∙◌, arith, ℕ}
-use Rattle.std.proofs.lemmas.List.{append-nil, map-id}
+use Rattle.table_lines.proofs.Names.{arith, has, is_bit_set, map-id, ℕ, ◌∙◌, ◌≡◌}
+use Rattle.std.proofs.lemmas.List.{append-nil}
 use Rattle.std.proofs.lemmas.List.FromFn.{filter_of_map_range_with_len_more}
-use Rattle.table_lines.specs.States.{has, is_bit_set}
 use Rattle.table_lines.proofs.Sets.{filter_has}
 use Rattle.table_lines.proofs.state_set.StateSet.to_vec.Goals as goal
 

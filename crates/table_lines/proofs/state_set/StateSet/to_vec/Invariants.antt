@@ -1,6 +1,4 @@
-use Rattle.std.proofs.Common.{◌≡◌}
-use Rattle.std.specs.List.{filter, range_with_len}
-use Rattle.table_lines.specs.States.{has}
+use Rattle.table_lines.proofs.Names.{filter, has, range_with_len, ◌≡◌}
 use Rattle.table_lines.proofs.state_set.StateSet.to_vec.Given as goal
 
 abbrev pub invariant-loop-state : goal.invariant-loop-state

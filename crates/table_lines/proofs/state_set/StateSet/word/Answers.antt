@@ -1,5 +1,4 @@
-use Rattle.std.proofs.Common.{sym, arith}
-use Rattle.table_lines.specs.StateWords.{word-kept}
+use Rattle.table_lines.proofs.Names.{arith, sym, word-kept}
 use Rattle.table_lines.proofs.state_set.StateSet.word.Goals as goal
 
 pub returns : goal.returns

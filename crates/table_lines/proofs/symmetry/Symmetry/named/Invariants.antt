@@ -1,6 +1,4 @@
-use Rattle.std.proofs.Common.{◌≡◌, drop, find}
-use Rattle.std.specs.Str.{bytes_eq}
-use Rattle.table_lines.specs.Symmetry.{name_of_symmetry, symmetries_of}
+use Rattle.table_lines.proofs.Names.{bytes_eq, drop, find, name_of_symmetry, symmetries_of, ◌≡◌}
 use Rattle.table_lines.proofs.symmetry.Symmetry.named.Given as goal
 
 abbrev pub invariant-loop-symmetry : goal.invariant-loop-symmetry

@@ -1,5 +1,4 @@
-use Rattle.std.proofs.Common.{◌≡◌, ◌+◌, Some, Ok, sym, rules}
-use Rattle.table_lines.specs.Variables.{definition_in}
+use Rattle.table_lines.proofs.Names.{Ok, Some, definition_in, rules, sym, ◌+◌, ◌≡◌}
 use Rattle.table_lines.proofs.variables.Variables.define.Goals as goal
 
 pub returns-clause-read : goal.returns-clause-read

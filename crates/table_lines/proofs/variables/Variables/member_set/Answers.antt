@@ -1,5 +1,4 @@
-use Rattle.std.proofs.Common.{◌∙◌, arith, sym}
-use Rattle.std.proofs.lemmas.Grind.{common_steps}
+use Rattle.table_lines.proofs.Names.{arith, common_steps, sym, ◌∙◌}
 use Rattle.table_lines.proofs.variables.Variables.member_set.Goals as goal
 
 pub returns-in-Some-named : goal.returns-in-Some-named

@@ -1,5 +1,4 @@
-use Rattle.std.proofs.Common.{length}
-use Rattle.table_lines.specs.Definitions.{variables_of}
+use Rattle.table_lines.proofs.Names.{length, variables_of}
 use Rattle.table_lines.proofs.Unions.{SoFar}
 use Rattle.table_lines.proofs.variables.Variables.set_of.Given as goal
 

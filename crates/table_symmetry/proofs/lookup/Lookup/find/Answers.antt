@@ -1,12 +1,6 @@
-use Rattle.std.proofs.Common.{arith, ◌≡◌, ◌*◌, length, take, ap, sym, ◌∙◌}
-use Rattle.std.proofs.lemmas.Bool.{eq-eqb}
-use Rattle.std.proofs.lemmas.List.{length-map}
-use Rattle.std.proofs.lemmas.Nat.Bits.{bit_at-trailing_zeros, bit_at-zero}
-use Rattle.std.proofs.lemmas.Option.{slice_get_past}
-use Rattle.table_symmetry.specs.NextState.{inputs_of}
+use Rattle.table_symmetry.proofs.Names.{ap, arith, bit_at-trailing_zeros, bit_at-zero, eq-eqb, inputs_of, length, length-map, slice_get_past, sym, take, w64, ◌*◌, ◌∙◌, ◌≡◌}
 use Rattle.table_symmetry.proofs.Finds.{first_found, none_below, slice_get-copied}
 use Rattle.table_symmetry.proofs.lookup.Lookup.find.Goals as goal
-use mir.Syntax.{w64}
 
 pub loop-word-init : goal.loop-word-init
 loop-word-init c = λ row h. absurd (omega arith)

@@ -1,5 +1,4 @@
-use Rattle.std.proofs.Common.{◌≡◌, ℕ, ◌*◌, ◌<◌, false}
-use Rattle.table_symmetry.specs.Lookup.{row_has}
+use Rattle.table_symmetry.proofs.Names.{false, row_has, ℕ, ◌*◌, ◌<◌, ◌≡◌}
 use Rattle.table_symmetry.proofs.lookup.Lookup.find.Given as goal
 
 abbrev pub invariant-loop-word : goal.invariant-loop-word

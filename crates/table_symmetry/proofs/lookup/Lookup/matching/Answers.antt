@@ -1,7 +1,4 @@
-use Rattle.std.proofs.Common.{ap, sym, ◌+◌, ◌*◌, ◌∙◌, inl, inr}
-use Rattle.std.proofs.Math.Bool.{and-true}
-use Rattle.std.proofs.lemmas.List.{nil_from_length}
-use Rattle.std.proofs.lemmas.Nat.Bits.{bit_at_ones, bit_at-zero}
+use Rattle.table_symmetry.proofs.Names.{and-true, ap, bit_at-zero, bit_at_ones, inl, inr, nil_from_length, sym, ◌*◌, ◌+◌, ◌∙◌}
 use Rattle.table_symmetry.proofs.Finds.{IsNarrowed-more, nothing_left}
 use Rattle.table_symmetry.proofs.lookup.Lookup.matching.Goals as goal
 

@@ -1,6 +1,4 @@
-use Rattle.std.proofs.Common.{arith, rules, ◌≡◌, ◌+◌, [], length, map, refl, ◌∙◌}
-use Rattle.table_symmetry.specs.Lookup.{HasColumns}
-use Rattle.table_symmetry.specs.NextState.{places_of}
+use Rattle.table_symmetry.proofs.Names.{HasColumns, [], arith, length, map, places_of, refl, rules, ◌+◌, ◌∙◌, ◌≡◌}
 use Rattle.table_symmetry.proofs.Columns.{AreRight-more}
 use Rattle.table_symmetry.proofs.Finds.{columns_tell}
 use Rattle.table_symmetry.proofs.lookup.Lookup.new.Goals as goal

@@ -1,5 +1,4 @@
-use Rattle.std.proofs.Common.{[]}
-use Rattle.table_symmetry.specs.Lookup.{HasColumns}
+use Rattle.table_symmetry.proofs.Names.{HasColumns, []}
 use Rattle.table_symmetry.proofs.Columns.{AreRight}
 use Rattle.table_symmetry.proofs.lookup.Lookup.new.Given as goal
 

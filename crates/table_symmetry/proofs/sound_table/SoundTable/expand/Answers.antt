@@ -1,5 +1,4 @@
-use Rattle.std.proofs.Common.{◌≡◌, rules}
-use Rattle.table_symmetry.specs.Expanded.{expanded}
+use Rattle.table_symmetry.proofs.Names.{expanded, rules, ◌≡◌}
 use Rattle.table_symmetry.proofs.Limits.{are_expanded}
 use Rattle.table_symmetry.proofs.sound_table.SoundTable.expand.Goals as goal
 

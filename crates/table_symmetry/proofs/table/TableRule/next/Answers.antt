@@ -1,5 +1,4 @@
-use Rattle.std.proofs.Common.{rules}
-use Rattle.worlds.specs.Step.{AreNineBelow}
+use Rattle.table_symmetry.proofs.Names.{AreNineBelow, rules}
 use Rattle.table_symmetry.proofs.FirstMatch.{next-expanded}
 use Rattle.table_symmetry.proofs.table.TableRule.next.Goals as goal
 

@@ -1,7 +1,4 @@
-use Rattle.std.proofs.Common.{◌≡◌, ℕ, ◌+◌, ◌*◌, ◌∙◌, sym, ap}
-use Rattle.std.proofs.lemmas.Bool.{eq-eqb}
-use Rattle.std.proofs.lemmas.Nat.Bits.{bit_at_ones}
-use Rattle.tree_translation.specs.Layers.{allows, lets}
+use Rattle.tree_translation.proofs.Names.{allows, ap, bit_at_ones, eq-eqb, lets, sym, ℕ, ◌*◌, ◌+◌, ◌∙◌, ◌≡◌}
 use Rattle.table_lines.proofs.Shared.WordBits.{bit-word}
 use Rattle.tree_translation.proofs.TailsNear.{lets-read}
 use Rattle.tree_translation.proofs.layers.Layer.word.Goals as goal

@@ -1,7 +1,4 @@
-use Rattle.std.proofs.Common.{◌≡◌, arith}
-use Rattle.revision_jobs.specs.declared.entries.Entries.{Entries}
-use Rattle.job_pool.specs.declared.answer_rule.Terms.{Terms}
-use Rattle.job_pool.specs.Home.{terms_of}
+use Rattle.job_pool.proofs.Names.{Entries, Terms, arith, terms_of, ◌≡◌}
 use Rattle.job_pool.proofs.Pops.{popped}
 use Rattle.job_pool.proofs.crew.fn.pool.scope.Goals as goal
 

@@ -1,8 +1,4 @@
-use Rattle.std.proofs.Common.{◌≡◌, ◌+◌, vec_len}
-use Rattle.std.specs.Prelude.{All}
-use Rattle.revision_jobs.specs.declared.entries.Entries.{Entries}
-use Rattle.job_pool.specs.declared.answer_rule.Terms.{Terms}
-use Rattle.job_pool.specs.Home.{terms_of}
+use Rattle.job_pool.proofs.Names.{All, Entries, Terms, terms_of, vec_len, ◌+◌, ◌≡◌}
 use Rattle.job_pool.proofs.crew.fn.pool.scope.Given as goal
 
 abbrev pub invariant-crew : goal.invariant-crew
