@@ -1,13 +1,14 @@
 #!/usr/bin/env python3
 """Times desk beside bgolly, Golly's engine without a window, on the same rules and patterns.
 
-    bench/bench.py [--desk PROGRAM] [--golly FOLDER] [--only WORD] [--more | --leaps] [--squares N]
+    bench/bench.py [--desk PROGRAM] [--golly FOLDER] [--only WORD] [--more | --leaps] [--squares N] [--runs COUNT]
 
-bgolly and its patterns come with Debian's package `golly`. Each program runs once for each pattern;
-the table has the processor seconds of the whole process and the peak of its memory, start-up
-included. bgolly runs its RuleLoader, and both get the rule as a table from the same file. With
-`--more` it runs other patterns of the package, and soups under other rules; with `--leaps` those whose
-squares fill a table, which are worth running with `--squares 4194304`, the program's default, too.
+bgolly and its patterns come with Debian's package `golly`. The two programs run in turn for each
+pattern, three times unless COUNT says another number; the table has the least processor seconds of
+the whole process and the peak of its memory, start-up included. bgolly runs its RuleLoader, and both
+get the rule as a table from the same file. With `--more` it runs other patterns of the package, and
+soups under other rules; with `--leaps` those whose squares fill a table, which are worth running with
+`--squares 4194304`, the program's default, too.
 """
 import math
 import sys
@@ -115,7 +116,7 @@ def desk_script(form, pattern, rule, generations):
 
 
 def main():
-    words = words_of(__doc__, golly=True)
+    words = words_of(__doc__, golly=True, runs=3)
     words.add_argument("--only", default="")
     words.add_argument("--squares", type=int, default=SQUARES)
     kind = words.add_mutually_exclusive_group()
@@ -134,11 +135,12 @@ def main():
                 with open(path, "w", encoding="utf-8") as file:
                     file.write(text)
             script = desk_script(form, pattern, rule, generations)
-            seconds, peak, said = measured([given.desk, "--squares", str(given.squares)], script)
-            theirs, their_peak, _ = measured(
-                ["bgolly", "-a", "RuleLoader", "-s", f"{room}/", "-q", "-q", "-m", str(generations), "-i", str(generations), f"{room}/pattern.{form}"]
-            )
-            done = "settled" in said.split() and "refused" not in said
+            desk = [given.desk, "--squares", str(given.squares)]
+            golly = ["bgolly", "-a", "RuleLoader", "-s", f"{room}/", "-q", "-q", "-m", str(generations), "-i", str(generations), f"{room}/pattern.{form}"]
+            rows = [(*measured(desk, script), *measured(golly)) for _ in range(given.runs)]
+            seconds, theirs = (min(row[at] for row in rows) for at in (0, 3))
+            peak, their_peak = (max(row[at] for row in rows) for at in (1, 4))
+            done = all("settled" in row[2].split() and "refused" not in row[2] for row in rows)
             if done:
                 ratios.append(seconds / theirs)
             print(f"| {name} | {seconds:.2f}{'' if done else ' (not computed)'} | {theirs:.2f} | {seconds / theirs:.2f} | {peak:.0f} | {their_peak:.0f} | {peak / their_peak:.2f} |", flush=True)
