@@ -1,12 +1,12 @@
 -- The quadrants of a band on the side of an edge, and how far its live cells lie from it.
 use Rattle.plane_core.proofs.Names.{All-cons, All-contains, All-nil, AreFilled, AreKept, AreKids, AreRows, Bounds, Contains, Contains-append_cases, Contains-append_left, Contains-append_right, Contains-get_or, Contains-push}
-use Rattle.plane_core.proofs.Names.{Contains-push_cases, HasLive, IsBand, IsBoundingBox, IsFull, IsNumber, List, SquareRow, [], ap, ap₂, arith, blank, cases_lt, cell, cell_in, depth, east, edge_of, flat_map, four, get_or, if_live, inl, inr}
-use Rattle.plane_core.proofs.Names.{ints, kid, kids_at, length, nat_tests, nil_from_length, opposite, pos, refl, root_level, row_at, south, square_in, subst, suc, sym, take, take_all, world_of_rows, zero, ℕ, ℤ, ◌+ℤ◌, ◌+◌, ◌-◌, ◌<◌, ◌^◌}
+use Rattle.plane_core.proofs.Names.{Contains-push_cases, HasLive, IsBand, IsBoundingBox, NamesLive, IsNumber, List, SquareRow, [], ap, ap₂, arith, blank, cases_lt, cell, cell_in, depth, east, edge_of, flat_map, four, get_or, if_live, inl, inr}
+use Rattle.plane_core.proofs.Names.{ints, kid, edge_kids, length, nat_tests, nil_from_length, opposite, pos, refl, root_level, row_at, south, square_in, subst, suc, sym, take, take_all, world_of_rows, zero, ℕ, ℤ, ◌+ℤ◌, ◌+◌, ◌-◌, ◌<◌, ◌^◌}
 use Rattle.plane_core.proofs.Names.{◌∙◌, ◌∷◌, ◌≡◌, ◌≤◌, ◌⊎◌}
 use Rattle.worlds.specs.Square.{empty_square}
 use Rattle.plane_core.specs.declared.edges.Edge.{Edge}
 use Rattle.plane_core.specs.declared.edges.Edge.TheVariants.{Left, Top, Right, Bottom}
-use Rattle.plane_core.specs.Edges.{Touches, IsReach}
+use Rattle.plane_core.specs.Edges.{LiesAlong, IsLeastDepth}
 use Rattle.plane_core.proofs.Parts.{IsSplit, east-le, south-le, quadrant-split, quadrant-cell}
 use Rattle.plane_core.proofs.Shared.Cells.{cell_in-empty, cell_in-one, offsets}
 use Rattle.plane_core.proofs.Shared.Centres.{walked-filled}
@@ -27,10 +27,10 @@ from_pieces f (a ∷ xs) y h =
       | inr there ↦ let r = from_pieces f xs y there in (r.0, Contains-append_right (a ∷ []) xs r.0 r.1, r.2)
     ]
 
-pub kids_are : (rows : List SquareRow) (e : Edge) (band found kids : List ℕ) (i : ℕ) → length band ≤ i → found ≡ flat_map (λ m. kids_at e (row_at rows m)) (take i band)
+pub kids_are : (rows : List SquareRow) (e : Edge) (band found kids : List ℕ) (i : ℕ) → length band ≤ i → found ≡ flat_map (λ m. edge_kids e (row_at rows m)) (take i band)
     → ((n : ℕ) → Contains found n → Contains kids n) → ((n : ℕ) → Contains kids n → Contains found n) → AreKids rows e band kids
 kids_are rows e band found kids i all is keeps adds_none =
-    let f = λ (m : ℕ). kids_at e (row_at rows m) in
+    let f = λ (m : ℕ). edge_kids e (row_at rows m) in
     let whole : found ≡ flat_map f band = is ∙ ap (flat_map f) (take_all i band all) in
     record {
       all = λ m n there h. keeps n (subst (λ xs. Contains xs n) (sym whole) (in_pieces f band m n there h));
@@ -40,27 +40,27 @@ kids_are rows e band found kids i all is keeps adds_none =
 if_live_from : (k n : ℕ) → Contains (if_live k) n → (0 < n) × (k ≡ n)
 if_live_from k n h = grind (arith, nat_tests, Contains-push_cases)
 
-kid_in : (e : Edge) (row : SquareRow) (q : ℕ) → Touches e q → 0 < kid row q → Contains (kids_at e row) (kid row q)
+kid_in : (e : Edge) (row : SquareRow) (q : ℕ) → LiesAlong e q → 0 < kid row q → Contains (edge_kids e row) (kid row q)
 kid_in e row q side live = grind (arith, nat_tests, Contains-push, Contains-append_left, Contains-append_right)
 
-kid_from : (e : Edge) (row : SquareRow) (n : ℕ) → Contains (kids_at e row) n → (q : ℕ) × Touches e q × ((0 < n) × (kid row q ≡ n))
+kid_from : (e : Edge) (row : SquareRow) (n : ℕ) → Contains (edge_kids e row) n → (q : ℕ) × LiesAlong e q × ((0 < n) × (kid row q ≡ n))
 kid_from e row n h = grind (arith, Contains-append_cases, if_live_from)
 
 -- each quadrant lies on the side of the edge, or of the opposite one
-sides : (e : Edge) (q : ℕ) → q < 4 → Touches e q ⊎ Touches (opposite e) q
+sides : (e : Edge) (q : ℕ) → q < 4 → LiesAlong e q ⊎ LiesAlong (opposite e) q
 sides e q few = grind (arith)
 
-below_four : (e : Edge) (q : ℕ) → Touches e q → q < 4
+below_four : (e : Edge) (q : ℕ) → LiesAlong e q → q < 4
 below_four e q side = grind (arith)
 
 module _ (n h x y : ℕ) (twice : n ≡ h + h) (s : IsSplit h x y) (e : Edge) where
-  depth_near : Touches e s.q → depth e n x y ≡ depth e h s.i s.j
+  depth_near : LiesAlong e s.q → depth e n x y ≡ depth e h s.i s.j
   depth_near side = grind (arith)
 
-  depth_far : Touches (opposite e) s.q → depth e n x y ≡ h + depth e h s.i s.j
+  depth_far : LiesAlong (opposite e) s.q → depth e n x y ≡ h + depth e h s.i s.j
   depth_far side = grind (arith)
 
-reach_small : (rows : List SquareRow) (e : Edge) (k : ℕ) (band : List ℕ) (d : ℕ) → IsReach rows e k band d → d < 2 ^ k
+reach_small : (rows : List SquareRow) (e : Edge) (k : ℕ) (band : List ℕ) (d : ℕ) → IsLeastDepth rows e k band d → d < 2 ^ k
 reach_small rows e k band d r = grind (arith)
 
 kid_cell : (rows : List SquareRow) (k n q i j : ℕ) → 1 ≤ k → 0 < n → q < 4 → i < 2 ^ (k - 1) → j < 2 ^ (k - 1)
@@ -74,7 +74,7 @@ none_cell : (rows : List SquareRow) (k n i j : ℕ) → 0 < cell_in k (square_in
 none_cell rows k zero i j live = grind (arith, square_in-none, cell_in-empty)
 none_cell rows k (suc n) i j live = omega arith
 
-pub reach_zero : (rows : List SquareRow) (e : Edge) (k : ℕ) (band : List ℕ) → k ≡ 0 → IsBand rows k band → IsReach rows e k band 0
+pub reach_zero : (rows : List SquareRow) (e : Edge) (k : ℕ) (band : List ℕ) → k ≡ 0 → IsBand rows k band → IsLeastDepth rows e k band 0
 reach_zero rows e k band is b =
     let n = get_or band 0 0 in
     let one : 2 ^ k ≡ 1 = ap (λ k. 2 ^ k) is in
@@ -84,17 +84,17 @@ reach_zero rows e k band is b =
 
 module _ (rows : List SquareRow) (e : Edge) (k : ℕ) (band kids : List ℕ) (some : 1 ≤ k) (is : IsBand rows k band) (are : AreKids rows e band kids) where
   -- the live cells of kids, by those of the band
-  down : (x y : ℕ) (s : IsSplit (2 ^ (k - 1)) x y) → Touches e s.q → HasLive rows k band x y → HasLive rows (k - 1) kids s.i s.j
+  down : (x y : ℕ) (s : IsSplit (2 ^ (k - 1)) x y) → LiesAlong e s.q → HasLive rows k band x y → HasLive rows (k - 1) kids s.i s.j
   down x y s side h =
-      let cell = kid_cell rows k h.n s.q s.i s.j some (All-contains (IsFull rows k) band h.n is.each h.there).0 s.few s.hi s.hj in
+      let cell = kid_cell rows k h.n s.q s.i s.j some (All-contains (NamesLive rows k) band h.n is.each h.there).0 s.few s.hi s.hj in
       let live = subst (λ n. 0 < n) (ap₂ (cell_in k (square_in rows k h.n)) s.at_x s.at_y ∙ cell) h.live in
       record { n = kid (row_at rows h.n) s.q; there = are.all h.n _ h.there (kid_in e (row_at rows h.n) s.q side (none_cell rows (k - 1) _ s.i s.j live)); live = live }
 
-  up : (i j : ℕ) → i < 2 ^ (k - 1) → j < 2 ^ (k - 1) → HasLive rows (k - 1) kids i j → (q : ℕ) × Touches e q × HasLive rows k band (east (2 ^ (k - 1)) q + i) (south (2 ^ (k - 1)) q + j)
+  up : (i j : ℕ) → i < 2 ^ (k - 1) → j < 2 ^ (k - 1) → HasLive rows (k - 1) kids i j → (q : ℕ) × LiesAlong e q × HasLive rows k band (east (2 ^ (k - 1)) q + i) (south (2 ^ (k - 1)) q + j)
   up i j hi hj h =
       let a = are.only h.n h.there in
       let b = kid_from e (row_at rows a.0) h.n a.2 in
-      let cell = kid_cell rows k a.0 b.0 i j some (All-contains (IsFull rows k) band a.0 is.each a.1).0 (below_four e b.0 b.1) hi hj in
+      let cell = kid_cell rows k a.0 b.0 i j some (All-contains (NamesLive rows k) band a.0 is.each a.1).0 (below_four e b.0 b.1) hi hj in
       (b.0, b.1, record { n = a.0; there = a.1; live = subst (λ n. 0 < n) (sym (cell ∙ ap (λ n. cell_in (k - 1) (square_in rows (k - 1) n) i j) b.2.1)) h.live })
 
   -- kids are a band
@@ -108,7 +108,7 @@ module _ (rows : List SquareRow) (e : Edge) (k : ℕ) (band kids : List ℕ) (so
   }
 
   -- no kid is there
-  no_kid : length kids ≡ 0 → (m q : ℕ) → Contains band m → Touches e q → kid (row_at rows m) q ≡ 0
+  no_kid : length kids ≡ 0 → (m q : ℕ) → Contains band m → LiesAlong e q → kid (row_at rows m) q ≡ 0
   no_kid none m q there side = let has = are.all m (kid (row_at rows m) q) there in grind (arith, kid_in, cases_lt)
 
 -- the cell of a square at (i, j) in its q-th quadrant
@@ -116,7 +116,7 @@ abbrev split_at : (h q i j : ℕ) → q < 4 → i < h → j < h → IsSplit h (e
 split_at h q i j few hi hj = record { q = q; i = i; j = j; few = few; at_x = refl; at_y = refl; hi = hi; hj = hj }
 
 -- what the near kids have nearest to the edge the band has
-pub reach_near : (rows : List SquareRow) (e : Edge) (k : ℕ) (band near : List ℕ) (d : ℕ) → 1 ≤ k → IsBand rows k band → AreKids rows e band near → IsReach rows e (k - 1) near d → IsReach rows e k band d
+pub reach_near : (rows : List SquareRow) (e : Edge) (k : ℕ) (band near : List ℕ) (d : ℕ) → 1 ≤ k → IsBand rows k band → AreKids rows e band near → IsLeastDepth rows e (k - 1) near d → IsLeastDepth rows e k band d
 reach_near rows e k band near d some is are r =
     let h = 2 ^ (k - 1) in
     let twice = root-side k some in
@@ -133,8 +133,8 @@ reach_near rows e k band near d some is are r =
     }
 
 -- where there are none, what the far ones have
-pub reach_far : (rows : List SquareRow) (e : Edge) (k : ℕ) (band near far : List ℕ) (d : ℕ) → 1 ≤ k → IsBand rows k band → AreKids rows e band near → length near ≡ 0 → AreKids rows (opposite e) band far → IsReach rows e (k - 1) far d
-    → IsReach rows e k band (2 ^ (k - 1) + d)
+pub reach_far : (rows : List SquareRow) (e : Edge) (k : ℕ) (band near far : List ℕ) (d : ℕ) → 1 ≤ k → IsBand rows k band → AreKids rows e band near → length near ≡ 0 → AreKids rows (opposite e) band far → IsLeastDepth rows e (k - 1) far d
+    → IsLeastDepth rows e k band (2 ^ (k - 1) + d)
 reach_far rows e k band near far d some is are none other r =
     let h = 2 ^ (k - 1) in
     let twice = root-side k some in
@@ -183,7 +183,7 @@ pub kept_filled : (rows : List SquareRow) → AreKept rows → AreFilled rows
 kept_filled rows kept = walked-filled rows (tidied rows rows kept.valid kept.walked).walked
 
 pub root_band : (rows : List SquareRow) → AreRows rows → 0 < length rows → IsBand rows (root_level rows) (length rows ∷ [])
-root_band rows valid some = record { some = omega arith; each = All-cons (IsFull rows (root_level rows)) _ [] (some, (rooted rows valid).number) (All-nil _) }
+root_band rows valid some = record { some = omega arith; each = All-cons (NamesLive rows (root_level rows)) _ [] (some, (rooted rows valid).number) (All-nil _) }
 
 seen : (rows : List SquareRow) (x y : ℤ) (i j : ℕ) → AreRows rows → x ≡ edge_of (root_level rows) +ℤ pos i → y ≡ edge_of (root_level rows) +ℤ pos j → i < 2 ^ root_level rows → j < 2 ^ root_level rows
     → HasLive rows (root_level rows) (length rows ∷ []) i j → 0 < cell (world_of_rows rows) x y
@@ -192,8 +192,8 @@ seen rows x y i j valid ex ey hi hj h = grind (arith, world-inside, Contains-pus
 -- the box of a world, by how far its edges lie from those of the root
 pub root_box : (rows : List SquareRow) (b : Bounds) (l t r u : ℕ) → AreRows rows → b.left ≡ edge_of (root_level rows) +ℤ pos l → b.top ≡ edge_of (root_level rows) +ℤ pos t
     → (b.right +ℤ pos r) +ℤ pos 1 ≡ pos (2 ^ (root_level rows - 1)) → (b.bottom +ℤ pos u) +ℤ pos 1 ≡ pos (2 ^ (root_level rows - 1))
-    → IsReach rows Left (root_level rows) (length rows ∷ []) l → IsReach rows Top (root_level rows) (length rows ∷ []) t
-    → IsReach rows Right (root_level rows) (length rows ∷ []) r → IsReach rows Bottom (root_level rows) (length rows ∷ []) u
+    → IsLeastDepth rows Left (root_level rows) (length rows ∷ []) l → IsLeastDepth rows Top (root_level rows) (length rows ∷ []) t
+    → IsLeastDepth rows Right (root_level rows) (length rows ∷ []) r → IsLeastDepth rows Bottom (root_level rows) (length rows ∷ []) u
     → IsBoundingBox b (world_of_rows rows)
 root_box rows b l t r u valid el et er eu left top right bottom =
     let k = root_level rows in

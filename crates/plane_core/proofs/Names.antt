@@ -1,7 +1,7 @@
 -- The names that the proofs of this crate cite most, passed on from one place. It declares nothing.
 pub use Rattle.plane_core.specs.Centre.{AreCentred, AreFilled, IsCentre, IsCorner, NoneEmpty, centred, cornered, is_alone, is_passed}
 pub use Rattle.plane_core.specs.Counts.{Gains, HasRoom, IsTallied, held, is_any, is_live, is_state, row_square, tally}
-pub use Rattle.plane_core.specs.Edges.{AreKids, HasLive, IsBand, IsFull, depth, if_live, kids_at, opposite}
+pub use Rattle.plane_core.specs.Edges.{AreKids, HasLive, IsBand, NamesLive, depth, edge_kids, if_live, opposite}
 pub use Rattle.plane_core.specs.Laid.{AddsTouching, AreLaidStates, AreQuadrants, AreStatesOf, AreThoseIn, IsAdded, IsClear, IsLaid, IsMade, IsNamed, IsRaised, Keeps, LiesIn, Touches, quadrant_of, renumbered, spans_of_runs, square_of}
 pub use Rattle.plane_core.specs.Measured.{AreBoundsOf, AreCountsOf, IsLastCounted}
 pub use Rattle.plane_core.specs.Part.{Covers, IsKid, IsPart, IsQuadrant, IsRoot, Shows, east, quadrant_at, south}

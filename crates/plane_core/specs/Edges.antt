@@ -20,8 +20,8 @@ quadrants Top = (0, 1)
 quadrants Right = (1, 3)
 quadrants Bottom = (2, 3)
 
-abbrev pub Touches : Edge → ℕ → Type 0
-Touches e q = (q ≡ (quadrants e).0) ⊎ (q ≡ (quadrants e).1)
+abbrev pub LiesAlong : Edge → ℕ → Type 0
+LiesAlong e q = (q ≡ (quadrants e).0) ⊎ (q ≡ (quadrants e).1)
 
 -- how far a cell of a square of this side lies from the edge
 abbrev pub depth : Edge → ℕ → ℕ → ℕ → ℕ
@@ -35,23 +35,23 @@ abbrev pub if_live : ℕ → List ℕ
 if_live n = cond (n == 0) [] (n ∷ [])
 
 -- the quadrants of a row on the side of the edge that aren't empty
-abbrev pub kids_at : Edge → SquareRow → List ℕ
-kids_at e row = if_live (kid row (quadrants e).0) ++ if_live (kid row (quadrants e).1)
+abbrev pub edge_kids : Edge → SquareRow → List ℕ
+edge_kids e row = if_live (kid row (quadrants e).0) ++ if_live (kid row (quadrants e).1)
 
 -- n names a square of level k that isn't empty
-abbrev pub IsFull : List SquareRow → ℕ → ℕ → Type 0
-IsFull rows k n = (0 < n) × IsNumber rows k n
+abbrev pub NamesLive : List SquareRow → ℕ → ℕ → Type 0
+NamesLive rows k n = (0 < n) × IsNumber rows k n
 
 -- some squares of level k, none of them empty
 pub record IsBand (rows : List SquareRow) (k : ℕ) (band : List ℕ) : Type 0 where
   pub some : 0 < length band
-  pub each : All (IsFull rows k) band
+  pub each : All (NamesLive rows k) band
 
 -- those of the quadrants of a band on the side of the edge that aren't empty
 pub record AreKids (rows : List SquareRow) (e : Edge) (band kids : List ℕ) : Type 0 where
-  pub all : (m n : ℕ) → Contains band m → Contains (kids_at e (row_at rows m)) n → Contains kids n
+  pub all : (m n : ℕ) → Contains band m → Contains (edge_kids e (row_at rows m)) n → Contains kids n
   pub only : (n : ℕ) → Contains kids n
-      → (m : ℕ) × Contains band m × Contains (kids_at e (row_at rows m)) n
+      → (m : ℕ) × Contains band m × Contains (edge_kids e (row_at rows m)) n
 
 -- some square of the band has a live cell at (i, j)
 pub record HasLive (rows : List SquareRow) (k : ℕ) (band : List ℕ) (i j : ℕ) : Type 0 where
@@ -60,7 +60,8 @@ pub record HasLive (rows : List SquareRow) (k : ℕ) (band : List ℕ) (i j : �
   pub live : 0 < cell_in k (square_in rows k n) i j
 
 -- the live cells of a band that lie nearest to the edge lie so far from it
-pub record IsReach (rows : List SquareRow) (e : Edge) (k : ℕ) (band : List ℕ) (d : ℕ) : Type 0 where
+pub record IsLeastDepth (rows : List SquareRow) (e : Edge) (k : ℕ) (band : List ℕ) (d : ℕ)
+    : Type 0 where
   pub least : (i j : ℕ) → i < 2 ^ k → j < 2 ^ k → HasLive rows k band i j → d ≤ depth e (2 ^ k) i j
   pub touched : (i : ℕ) × (j : ℕ) × (i < 2 ^ k) × (j < 2 ^ k) × HasLive rows k band i j
       × (depth e (2 ^ k) i j ≡ d)

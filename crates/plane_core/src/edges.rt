@@ -10,7 +10,7 @@ ghost use Rattle.std.specs.List.{Contains};
 ghost use Rattle.plane_core.specs.Rows.{AreKept, edge_of, root_level, world_of_rows};
 ghost use Rattle.plane_core.specs.Centre.{AreFilled};
 ghost use Rattle.plane_core.specs.Measured.{AreBoundsOf};
-ghost use Rattle.plane_core.specs.Edges.{AreKids, IsBand, IsReach, if_live, kids_at, opposite, quadrants};
+ghost use Rattle.plane_core.specs.Edges.{AreKids, IsBand, IsLeastDepth, if_live, edge_kids, opposite, quadrants};
 
 use crate::part::{root_level, side};
 use crate::row::SquareRow;
@@ -65,7 +65,7 @@ fn push_live(number: u32, found: &mut Vec<u32>) -> Result<(), AllocError>
 
 // Adds the quadrants of a square on the side of the edge that aren't empty.
 fn push_kids(row: SquareRow, edge: Edge, kids: &mut Vec<u32>) -> Result<(), AllocError>
-    ensures { OnOk result (kids.new.items ≡ kids.old.items ++ kids_at edge row) }
+    ensures { OnOk result (kids.new.items ≡ kids.old.items ++ edge_kids edge row) }
 {
     let (first, second) = edge.quadrants();
     push_live(row.kids[first], kids)?;
@@ -112,7 +112,7 @@ fn reach(
     requires rows { AreFilled rows.now }
     requires level { level ≤ 62 }
     requires band { IsBand rows.now level band.now }
-    ensures { IfOk result (IsReach rows.now edge level band.now) }
+    ensures { IfOk result (IsLeastDepth rows.now edge level band.now) }
 {
     if level == 0 {
         return Ok(0);
@@ -132,7 +132,7 @@ fn reach_of(alloc: Global, rows: &[SquareRow], edge: Edge) -> Result<u64, AllocE
     requires rows { AreKept rows.now }
     requires few { length rows.now < 2 ^ 32 }
     requires some { 0 < length rows.now }
-    ensures { IfOk result (IsReach rows.now edge (root_level rows.now) (length rows.now ∷ [])) }
+    ensures { IfOk result (IsLeastDepth rows.now edge (root_level rows.now) (length rows.now ∷ [])) }
 {
     reach(alloc, rows, edge, root_level(rows), &[rows.len() as u32])
 }

@@ -1,5 +1,5 @@
 use Rattle.plane_core.proofs.Names.{IfOk-weaker, arith, length, nat_tests, ◌-◌, ◌<◌, ◌≡◌}
-use Rattle.plane_core.specs.Edges.{IsReach}
+use Rattle.plane_core.specs.Edges.{IsLeastDepth}
 use Rattle.plane_core.proofs.Bands.{kids_band, reach_far, reach_near, reach_zero, some_far}
 use Rattle.plane_core.proofs.edges.+reach.Goals as goal
 
@@ -13,7 +13,7 @@ reach-requires t c =
 
 pub returns-then-not-is_empty : goal.returns-then-not-is_empty
 returns-then-not-is_empty t c =
-    let reaches = IsReach c.args.rows.now c.args.edge in
+    let reaches = IsLeastDepth c.args.rows.now c.args.edge in
     IfOk-weaker c.reach.result (reaches (c.args.level - 1) c.deref.result.now) (reaches c.args.level c.args.band.now) (λ d r.
     reach_near _ _ c.args.level _ _ d (omega arith) c.requires.band c.in_ok-near.ensures (rw c.deref.ensures.value at r)) c.reach.ensures
 
