@@ -4,9 +4,9 @@ standard error how far it is.
 
 A crate is proved by the toolchain's `rattle` as soon as the crates below it are, from nothing and over
 their statements alone, which is all that it may cite. Crates that don't stand on one another are proved
-side by side, those with the longest way up to the program first. One process loads a crate, and several
-share its proofs then: so there are more of them than processors, and the most urgent crate goes before
-the others. What was proved of the same text is kept beside the program, in its folder `out`.
+side by side, those with the longest way up to the program first, and where there are fewer of them than
+processors, several processes share the proofs of one. What was proved of the same text is kept beside
+the program, in its folder `out`.
 """
 import asyncio
 import contextlib
@@ -36,10 +36,8 @@ LINES_A_SECOND = 10
 GUESSED_LINES = 4000
 # More processes than this gain nothing at one crate.
 MOST_JOBS = 4
-# More bytes of memory than the proof of a crate was seen to take.
-MEMORY = 4_000_000_000
-# By how much a crate is nicer than a more urgent one: it then gets a third of the time.
-NICER = 5
+# More bytes of memory than a process was seen to take.
+MEMORY = 3_000_000_000
 
 
 @dataclasses.dataclass(eq=False)
@@ -170,18 +168,10 @@ class Refused(Exception):
     """What the toolchain said of a crate that it doesn't prove."""
 
 
-def stand_apart(niceness):
-    """Makes the process that is to run a command the first of its group, and so nice. In a session of its own it
-    would be as urgent as all others together."""
-    os.setpgid(0, 0)
-    os.nice(niceness)
-
-
-async def run(*words, folder=ROOT, niceness=0):
+async def run(*words, folder=ROOT):
     """Runs a command of the toolchain, which ends with this program."""
     how = {"stdin": asyncio.subprocess.DEVNULL, "stdout": asyncio.subprocess.PIPE, "stderr": asyncio.subprocess.STDOUT}
-    apart = functools.partial(stand_apart, niceness)
-    process = await asyncio.create_subprocess_exec(*words, cwd=folder, preexec_fn=apart, **how)
+    process = await asyncio.create_subprocess_exec(*words, cwd=folder, start_new_session=True, **how)
     try:
         said, _ = await process.communicate()
     finally:
@@ -192,7 +182,7 @@ async def run(*words, folder=ROOT, niceness=0):
         raise Refused(said.decode(errors="replace"))
 
 
-def words_for(crate):
+def words_for(crate, jobs):
     """The words of the toolchain's command `build` that say what a crate is and stands on."""
     kit = toolchain()
     words = ["--crate-name", crate.name, f"src/{'main' if crate.name == PROGRAM else 'lib'}.rt"]
@@ -203,32 +193,31 @@ def words_for(crate):
     words += ["-L", f"dependency={kit}/rlibs", "-L", f"dependency={KEPT}"]
     words += ["--antt-project", f"{kit}/rattle/logic/antt-project.json", "--logic-built", f"{kit}/logic_built"]
     # It has no foreign code.
-    return [*words, "--links", f"{crate.name}=", "--jobs", str(min(MOST_JOBS, processors()))]
+    return [*words, "--links", f"{crate.name}=", "--jobs", str(jobs)]
 
 
-async def prove(crate, niceness, *words):
+async def prove(crate, jobs, *words):
     """Proves a crate, and builds of it what these words say."""
-    words = [f"{toolchain()}/bin/rattle", "build", *words_for(crate), *words]
-    await run(*words, folder=crate.folder, niceness=niceness)
+    await run(f"{toolchain()}/bin/rattle", "build", *words_for(crate, jobs), *words, folder=crate.folder)
     if crate.sum_now() != crate.sum:
         raise Refused(f"{crate.name} changed while it was proved\n")
 
 
-async def prove_library(crate, niceness=0):
+async def prove_library(crate, jobs):
     """Proves a library, and keeps its statements."""
     os.makedirs(KEPT, exist_ok=True)
     with contextlib.suppress(FileNotFoundError):
         os.remove(f"{crate.library}.sum")
-    await prove(crate, niceness, "--statements", "-o", crate.library)
+    await prove(crate, jobs, "--statements", "-o", crate.library)
     with open(f"{crate.library}.sum", "w", encoding="ascii") as file:
         file.write(crate.sum)
 
 
-async def prove_program(crate, niceness=0):
+async def prove_program(crate, jobs):
     """Proves the program, compiles what was proved, and links it."""
     kit, made = toolchain(), f"{OUT}/{PROGRAM}.o"
     os.makedirs(OUT, exist_ok=True)
-    await prove(crate, niceness, "--toolchain", f"{kit}/toolchain", "--backend", "llvm", "-o", made)
+    await prove(crate, jobs, "--toolchain", f"{kit}/toolchain", "--backend", "llvm", "-o", made)
     words = ["--target", TARGET, "--toolchain", f"{kit}/toolchain", "-o", f"{BUILT}.new", made]
     await run(f"{kit}/bin/rattle-link", *words, f"{kit}/c/libos_c.a", f"{kit}/c/liblibc_c.a")
     # A program that runs keeps its file.
@@ -240,32 +229,43 @@ def urgency(crate):
 
 
 def lanes():
-    """How many crates may be proved at a time."""
+    """How many processes may prove at a time."""
     return max(1, min(processors(), free_memory() // MEMORY))
 
 
 def next_to_prove(waiting, running, room):
-    """The crates that can be proved now, the most urgent first, as far as there is room for them."""
-    ready = [it for it in waiting if it.below.isdisjoint(waiting | running)]
-    return sorted(ready, key=urgency, reverse=True)[: max(0, room - len(running))]
+    """The crates that can be proved now, and by how many processes each.
+
+    Each gets an equal share of those that are idle, of at most two. The most urgent of all under way gets two
+    at least, even if there is one process too many then, and more where no other crate can be proved.
+    """
+    ready = sorted((it for it in waiting if it.below.isdisjoint(waiting | running.keys())), key=urgency, reverse=True)
+    idle, is_only = room - sum(running.values()), len(ready) == 1
+    most_urgent = max(map(urgency, running), default=0)
+    while ready and idle > 0:
+        share = idle // len(ready)
+        crate, jobs = ready.pop(0), min(max(1, share), 2)
+        if urgency(crate) >= most_urgent:
+            jobs, most_urgent = max(min(2, room), min(share, MOST_JOBS) if is_only else 0), urgency(crate)
+        yield crate, jobs
+        idle -= jobs
 
 
 async def prove_all(waiting, progress):
     """Proves crates, each after those below it that are among them."""
-    running, tasks, room = set(), {}, lanes()
+    running, tasks, room = {}, {}, lanes()
     try:
         while waiting or running:
-            for crate in next_to_prove(waiting, running, room):
+            for crate, jobs in [*next_to_prove(waiting, running, room)]:
                 how = prove_program if crate.name == PROGRAM else prove_library
-                niceness = NICER if urgency(crate) < max(map(urgency, running), default=0) else 0
-                tasks[asyncio.create_task(how(crate, niceness))] = crate
-                running.add(crate)
+                tasks[asyncio.create_task(how(crate, jobs))] = crate
+                running[crate] = jobs
                 waiting.remove(crate)
             ended, _ = await asyncio.wait(tasks, return_when=asyncio.FIRST_COMPLETED)
             for task in ended:
                 await task
                 crate = tasks.pop(task)
-                running.remove(crate)
+                del running[crate]
                 progress.end(crate)
                 if progress.left:
                     tell(f"{crate.name} is proved; about {progress.minutes()} min to go")

@@ -32,7 +32,7 @@ def has_ended(process):
 
 
 class Order(unittest.TestCase):
-    """What is proved next."""
+    """What is proved next, and by how many processes."""
 
     def setUp(self):
         self.low = crate("low", lines=10)
@@ -41,7 +41,8 @@ class Order(unittest.TestCase):
         self.all = {self.low, self.left, self.right, self.top}
 
     def next(self, done, running, room=4):
-        return build.next_to_prove(self.all - done - running, running, room)
+        waiting = self.all - done - running.keys()
+        return [*build.next_to_prove(waiting, running, room)]
 
     def test_the_crates_of_the_program_are_found(self):
         needed = build.crates()
@@ -52,20 +53,28 @@ class Order(unittest.TestCase):
         for at, it in enumerate(needed):
             self.assertLessEqual(it.below, {*needed[:at]})
 
-    def test_the_most_urgent_is_proved_first(self):
-        self.assertEqual(self.next({self.low}, set()), [self.right, self.left])
-        self.assertEqual(self.next({self.low}, set(), room=1), [self.right])
+    def test_a_crate_alone_gets_all_processes(self):
+        self.assertEqual(self.next(set(), {}), [(self.low, 4)])
+        self.assertEqual(self.next({self.low, self.left, self.right}, {}), [(self.top, 4)])
 
-    def test_a_crate_waits_for_those_below_it(self):
-        self.assertEqual(self.next(set(), set()), [self.low])
-        self.assertEqual(self.next(set(), {self.low}), [])
-        self.assertEqual(self.next({self.low, self.left}, {self.right}), [])
-        self.assertEqual(self.next({self.low, self.left, self.right}, set()), [self.top])
+    def test_crates_side_by_side_share_them(self):
+        self.assertEqual(self.next({self.low}, {}), [(self.right, 2), (self.left, 2)])
+        self.assertEqual(self.next({self.low}, {}, room=2), [(self.right, 2)])
 
-    def test_a_crate_waits_for_room(self):
-        self.assertEqual(self.next({self.low}, {self.right}), [self.left])
-        self.assertEqual(self.next({self.low}, {self.right}, room=1), [])
-        self.assertEqual(self.next({self.low}, {self.right, self.left}, room=1), [])
+    def test_the_most_urgent_gets_two(self):
+        self.assertEqual(self.next({self.low}, {self.left: 3}), [(self.right, 2)])
+        self.assertEqual(self.next({self.low}, {self.right: 3}), [(self.left, 1)])
+
+    def test_the_most_urgent_gets_what_no_other_can_use(self):
+        self.assertEqual(self.next({self.low}, {self.left: 1}), [(self.right, 3)])
+        self.assertEqual(self.next({self.low}, {self.right: 1}), [(self.left, 2)])
+
+    def test_a_crate_waits_for_those_below_it_and_for_a_process(self):
+        self.assertEqual(self.next(set(), {self.low: 2}), [])
+        self.assertEqual(self.next({self.low}, {self.right: 4}), [])
+
+    def test_one_process_proves_where_there_is_room_for_one(self):
+        self.assertEqual(self.next(set(), {}, room=1), [(self.low, 1)])
 
 
 @unittest.skipUnless(shutil.which("rt"), "the toolchain is not on the PATH")
@@ -84,7 +93,7 @@ class Proofs(unittest.TestCase):
     def test_what_is_proved_is_kept_until_its_text_changes(self):
         proved = crate(LOWEST)
         self.assertFalse(proved.is_kept())
-        asyncio.run(build.prove_library(proved))
+        asyncio.run(build.prove_library(proved, 2))
         self.assertTrue(proved.is_kept())
         self.assertTrue(os.path.isdir(proved.library))
         self.append("\n// More.\n")
@@ -93,7 +102,7 @@ class Proofs(unittest.TestCase):
     def test_what_is_wrong_with_a_crate_is_told(self):
         self.append("\nfn wrong() -> u8 {\n    nowhere()\n}\n")
         with self.assertRaises(build.Refused) as refused:
-            asyncio.run(build.prove_library(crate(LOWEST)))
+            asyncio.run(build.prove_library(crate(LOWEST), 1))
         self.assertIn("nowhere", str(refused.exception))
         self.assertFalse(crate(LOWEST).is_kept())
 
@@ -105,12 +114,6 @@ class Commands(unittest.TestCase):
         with self.assertRaises(build.Refused) as refused:
             asyncio.run(build.run("sh", "-c", "echo why; exit 3"))
         self.assertEqual(str(refused.exception), "why\n")
-
-    def test_a_command_is_as_nice_as_is_said(self):
-        mine = os.getpriority(os.PRIO_PROCESS, 0)
-        with self.assertRaises(build.Refused) as refused:
-            asyncio.run(build.run("sh", "-c", "nice; exit 1", niceness=2))
-        self.assertEqual(str(refused.exception), f"{mine + 2}\n")
 
     def test_a_command_ends_with_who_waits_for_it(self):
         with tempfile.NamedTemporaryFile() as file:
