@@ -22,6 +22,9 @@ const FIRST_NUMBER: u32 = 256;
 // A table begins with so many slots. Their number is a power of two, and doubles with the rows.
 const FEWEST_SLOTS: usize = 1024;
 
+// Fewer slots than these, 4 MB, mostly stand in a cache, so that there are two of them for a row.
+const MANY_SLOTS: usize = 1 << 20;
+
 /// The distinct squares of one computation. The arena, which is made before the table, holds the
 /// quadrants of its handles.
 ///
@@ -176,11 +179,22 @@ impl<'a> SquareTable<'a> {
         })
     }
 
-    // More slots, where three quarters of them are in use: beyond that ways become long.
+    // How many rows the slots serve: half as many where they are few, and three quarters where they
+    // are many. With more rows ways become long.
+    fn most_rows(&self) -> usize {
+        let count = self.slots.len();
+        if count < MANY_SLOTS {
+            count / 2
+        } else {
+            count / 4 * 3
+        }
+    }
+
+    // More slots, where there are too few for one row more.
     fn make_ready(&mut self)
         ensures { self.new ≡ self.old }
     {
-        if self.rows.len() >= self.slots.len() / 4 * 3 {
+        if self.rows.len() >= self.most_rows() {
             widen(self.alloc, &self.rows, &mut self.slots);
         }
     }
