@@ -78,7 +78,7 @@ impl<'e> Book<'e> {
             texts: Vec::new(alloc),
             places: Vec::new(alloc),
             cursor: Cursor::start(),
-            facts: Facts::new(alloc, facts)?,
+            facts: Facts::new(alloc, facts),
             refused: Refusals::none(),
             alloc,
         })

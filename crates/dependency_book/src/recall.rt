@@ -82,7 +82,7 @@ impl Book<'_> {
         let Ok(step) = self.step_to(mark) else {
             return;
         };
-        let Ok(Some(plane)) = self.facts.recall(step) else {
+        let Ok(Some(plane)) = self.facts.recall(&step) else {
             return;
         };
         self.put_arrival(mark, RowState::Known(Arrival::of(plane)));

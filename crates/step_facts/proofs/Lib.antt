@@ -1,2 +1,3 @@
 pub mod Cells
-pub mod Keeping
+pub mod Equal
+pub mod Taking

@@ -1,5 +1,3 @@
-pub mod Fed
-pub mod Kept
 pub mod Known
-pub mod Laws
 pub mod Same
+pub mod Taken

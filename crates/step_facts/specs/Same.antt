@@ -4,7 +4,6 @@ use Rattle.std.specs.Arc.{arc_value}
 use Rattle.std.specs.Coded.{Coded, codes}
 use base.Stored.{Gv, gnil, gnum, gcons}
 use Rattle.worlds.specs.World.{World, coded_world}
-use Rattle.worlds.specs.Live.{population}
 use Rattle.worlds.specs.declared.cell.CellSet.{CellSet}
 use Rattle.rule_tree.specs.declared.rule.Kind.{Kind}
 use Rattle.revision_jobs.specs.declared.entry.Step.{Step}
@@ -24,12 +23,6 @@ asked_of s = record {
   cells = s.cells;
   gens = s.gens;
 }
-
--- as many generations pass, as many cells are live, and the same cells are laid
-pub record HaveSameParts (s t : Step) : Type 0 where
-  pub gens : s.gens ≡ t.gens
-  pub population : population (arc_value s.from) ≡ population (arc_value t.from)
-  pub cells : s.cells ≡ t.cells
 
 -- a code that tells such apart
 pub coded_asked : Coded Asked

@@ -1,16 +1,19 @@
 //! The facts.
-ghost use Rattle.std.specs.Prelude.{◌≡◌, [], Some, IfOk, OnErr, OnOk, IfSome};
+ghost use Rattle.std.specs.Prelude.{◌≡◌, ◌+◌, [], Some, length, IfNone, IfOk, IfSome, OnErr, OnOk, IsSome, position};
 ghost use Rattle.std.specs.Arc.{arc_value};
-ghost use Rattle.std.specs.Option.{option_map};
+ghost use Rattle.std.specs.Option.{option_map, option_to_list};
+ghost use Rattle.std.specs.VecDeque.{deque_capacity, deque_len};
 ghost use Rattle.revision_jobs.specs.Value.{world_after};
 ghost use Rattle.revision_jobs.specs.declared.entry.Step.{Step};
 ghost use Rattle.step_facts.specs.Known.{AddsOnly, known};
+ghost use Rattle.step_facts.specs.Same.{same_step};
+ghost use Rattle.step_facts.specs.Taken.{IsTaken};
 
-use crate::key::Key;
-use lru::LruCache;
+use crate::kept::Kept;
 use plane_core::Plane;
 use revision_jobs::Step;
 use std::alloc::{AllocError, Global};
+use std::collections::VecDeque;
 use std::marker::Model;
 use std::num::NonZeroUsize;
 use std::sync::Arc;
@@ -20,36 +23,56 @@ use std::sync::Arc;
 /// Contracts see them as a list, in which each pattern is the one that comes of its step.
 #[derive(Drop)]
 pub struct Facts {
-    cache: LruCache<Key, Arc<Plane>>,
+    kept: VecDeque<Kept>,
+    most: NonZeroUsize,
     alloc: Global,
 }
 
 impl Model for Facts {
     ghost use Rattle.std.specs.Coded.{codes};
     ghost use Rattle.std.specs.Prelude.{List};
-    ghost use Rattle.std.specs.List.{AllByRecursion};
     ghost use Rattle.worlds.specs.World.{coded_world};
-    ghost use Rattle.step_facts.specs.Known.{Fact, IsTrueFact};
-    ghost use Rattle.step_facts.specs.Kept.{facts_of};
+    ghost use Rattle.step_facts.specs.Known.{Fact};
 
     ghost Value = { List Fact };
 
     ghost coded = { Prim.hlevel (codes, coded_world) };
 
-    ghost view = { λ facts. facts_of facts.cache.entries };
+    ghost view = { λ facts. facts.kept.items };
+}
 
-    ghost invariant = { λ facts. AllByRecursion IsTrueFact (facts_of facts.cache.entries) };
+// Where the first fact of a step stands, if there is one.
+fn place_of(facts: &VecDeque<Kept>, step: &Step) -> Option<usize>
+    ensures { result ≡ position (λ fact. same_step step.now fact.0) facts.now.items }
+{
+    let live = step.from.population();
+    facts.iter().position(|kept| kept.is_of(step, live))
+}
+
+// The first fact of a step leaves, if there is one.
+fn take_out(facts: &mut VecDeque<Kept>, step: &Step) -> Option<Kept>
+    ensures none { IfNone result
+        ((known facts.old.items step.now ≡ None) × (facts.new ≡ facts.old)) }
+    ensures some { IfSome result (λ fact. IsTaken step.now facts.old.items fact facts.new.items) }
+    ensures rest { (other : Step) →
+        IsSome (known facts.new.items other) → IsSome (known facts.old.items other) }
+    ensures length { length (option_to_list result) + deque_len facts.new ≡ deque_len facts.old }
+    ensures capacity { deque_capacity facts.new ≡ deque_capacity facts.old }
+{
+    let place = place_of(facts, step)?;
+    facts.remove(place)
 }
 
 impl Facts {
     /// No facts, and room for at most so many.
-    pub fn new(alloc: Global, most: NonZeroUsize) -> Result<Facts, AllocError>
-        ensures { IfOk result (λ facts. facts ≡ []) }
+    pub fn new(alloc: Global, most: NonZeroUsize) -> Facts
+        ensures { result ≡ [] }
     {
-        Ok(Facts {
-            cache: LruCache::sparse(alloc, most)?,
+        Facts {
+            kept: VecDeque::new(alloc),
+            most,
             alloc,
-        })
+        }
     }
 
     /// Keeps which pattern came of a step, as the fact that was used last. Where there was no room
@@ -60,36 +83,28 @@ impl Facts {
         ensures adds { AddsOnly step.now self.old self.new }
         ensures unchanged { OnErr result (self.new ≡ self.old) }
     {
-        let key = Key {
-            step: Step {
-                rule: Arc::try_clone(&step.rule)?,
-                from: Arc::try_clone(&step.from)?,
-                cells: step.cells.copy(self.alloc)?,
-                gens: step.gens,
-            },
-        };
-        let value = Arc::try_clone(value)?;
-        match self.cache.put(key, value) {
-            Ok(_) => Ok(()),
-            Err(_) => Err(AllocError),
-        }
+        let kept = Kept::of(self.alloc, step, value)?;
+        self.kept.reserve(1)?;
+        take_out(&mut self.kept, step);
+        self.kept.truncate(self.most.get() - 1);
+        self.kept.push_front_reserved(kept);
+        Ok(())
     }
 
     /// The pattern that comes of a step, if the fact is kept, which then is the one that was used
     /// last.
-    pub fn recall(&mut self, step: Step) -> Result<Option<Arc<Plane>>, AllocError>
+    pub fn recall(&mut self, step: &Step) -> Result<Option<Arc<Plane>>, AllocError>
         ensures known { IfOk result (λ found.
-            option_map (λ plane. arc_value plane) found ≡ known self.old step) }
+            option_map (λ plane. arc_value plane) found ≡ known self.old step.now) }
         ensures right { IfOk result (λ found.
-            IfSome found (λ plane. arc_value plane ≡ world_after step)) }
+            IfSome found (λ plane. arc_value plane ≡ world_after step.now)) }
         ensures others { (other : Step) → known self.new other ≡ known self.old other }
     {
-        let key = Key { step };
-        let found = match self.cache.peek(&key) {
-            Some(plane) => Arc::try_clone(plane)?,
-            None => return Ok(None),
+        let Some(kept) = take_out(&mut self.kept, step) else {
+            return Ok(None);
         };
-        self.cache.promote(&key);
-        Ok(Some(found))
+        let value = kept.value();
+        self.kept.push_front_reserved(kept);
+        Ok(Some(value?))
     }
 }

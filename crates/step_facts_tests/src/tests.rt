@@ -81,7 +81,7 @@ fn value_of(rt: &impl Abort, alloc: Global, step: &Step) -> Arc<Plane>
 
 fn facts_for(rt: &impl Abort, alloc: Global, most: usize) -> Facts {
     let most = NonZeroUsize::new(most).expect(rt, "more than none");
-    Facts::new(alloc, most).expect(rt, "memory")
+    Facts::new(alloc, most)
 }
 
 fn keep(rt: &impl Abort, alloc: Global, facts: &mut Facts, case: &Case) {
@@ -93,14 +93,14 @@ fn keep(rt: &impl Abort, alloc: Global, facts: &mut Facts, case: &Case) {
 fn expect_found(rt: &impl Abort, alloc: Global, facts: &mut Facts, case: &Case) {
     let step = step_of(rt, alloc, case);
     let wanted = value_of(rt, alloc, &step);
-    let found = facts.recall(step).expect(rt, "memory");
+    let found = facts.recall(&step).expect(rt, "memory");
     let found = found.expect(rt, "the fact is kept");
     assert!(rt; found.equals(&wanted), "{case:?}");
 }
 
 fn expect_lacking(rt: &impl Abort, alloc: Global, facts: &mut Facts, case: &Case) {
     let step = step_of(rt, alloc, case);
-    let found = facts.recall(step).expect(rt, "memory");
+    let found = facts.recall(&step).expect(rt, "memory");
     assert!(rt; found.is_none(), "{case:?}");
 }
 

@@ -11,7 +11,7 @@ invariant_of-result c =
       c.new-4.ensures.items,
       c.none.ensures,
       c.start.ensures,
-      c.in_ok-new.ensures,
+      c.new-5.ensures,
     ) (opened_kept c.args.entries.now c.args.revision)
 
 pub returns-clause-right : goal.returns-clause-right
