@@ -11,6 +11,9 @@ use Rattle.plane_core.proofs.Shared.Numbering.{Grows}
 use Rattle.plane_core.proofs.Shared.Sound as sound
 use Rattle.plane_core.proofs.Shared.Tidy as tidy
 use Rattle.plane_core.proofs.Shared.Tidy.{LevelsUpTo}
+use Rattle.square_table.specs.Packing.{IsFound}
+use Rattle.square_table.specs.declared.pack.Found.{Found}
+use Rattle.square_table.specs.declared.pack.Found.TheVariants as found
 use Rattle.square_table.specs.declared.pack.Packed.{Packed}
 use Rattle.square_table.proofs.Shared.Numbers.{one_level, one_number}
 use Rattle.square_table.proofs.Shared.Tables.{above_zero}
@@ -158,6 +161,11 @@ number_row-new row rows none some = grind (arith, number_row-is, not_found)
 known_kept : (rows : List (List ℕ)) (old new : List SquareRow) (k n : ℕ) (o : Option ℕ) → Grows old new → IfSome o (Has k (square_in rows k n) old) → IfSome o (Has k (square_in rows k n) new)
 known_kept rows old new k n None grows h = tt
 known_kept rows old new k n (Some m) grows h = Has-grown k (square_in rows k n) old new m grows h
+
+-- what is found of a square stays so while another is packed
+pub found_still : (rows : List (List ℕ)) (k n j : ℕ) (t : Square) (old new : List SquareRow) (m : ℕ) (f : Found) → Walks j t old new m → IsFound rows k n old f → IsFound rows k n new f
+found_still rows k n j t old new m (found.Number p) walk h = Has-grown k (square_in rows k n) old new p (walked_grows j t old new m walk) h
+found_still rows k n j t old new m (found.Quadrants kids) walk h = h
 
 -- one more square of the table is packed, after its quadrants
 module _ (rows : List (List ℕ)) (mid new : Packed) (level n m : ℕ) (all : List ℕ)

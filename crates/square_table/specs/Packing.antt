@@ -6,11 +6,13 @@ use Rattle.plane_core.specs.Rows as listed
 use Rattle.plane_core.specs.Rows.{no_row}
 use Rattle.plane_core.specs.Walks.{Has, Walks}
 use Rattle.plane_core.specs.Centre.{centred}
+use Rattle.square_table.specs.declared.pack.Found.{Found}
+use Rattle.square_table.specs.declared.pack.Found.TheVariants as found
 use Rattle.square_table.specs.declared.pack.Packed.{Packed}
 use Rattle.square_table.specs.declared.pack.Quarters.{Quarters}
 use Rattle.square_table.specs.declared.square.Square as squares
 use Rattle.square_table.specs.Renumbering.{known_of, known_range}
-use Rattle.square_table.specs.Squares.{Table, first_number, IsNumber, square_in, square_of, AreDistinct, level_of, cells_of}
+use Rattle.square_table.specs.Squares.{Table, first_number, IsNumber, kids_at, square_in, square_of, AreDistinct, level_of, cells_of}
 use Rattle.square_table.specs.Centred.{CentredAlike}
 
 -- the square of the i-th row is one of the table, and its number is remembered
@@ -34,6 +36,12 @@ pub record IsPacking (rows : List (List ℕ)) (packed : Packed) : Type 0 where
   pub known : (k n : ℕ) → 0 < k → IsNumber rows k n →
       IfSome (known_of packed.numbers n) (Has k (square_in rows k n) packed.squares.items)
   pub seen : (i : ℕ) → i < length packed.squares.items → IsSeen rows packed i
+
+-- of the square of level k with the number n its number among the rows of a plane was found, or else
+-- its quadrants
+abbrev pub IsFound : List (List ℕ) → ℕ → ℕ → List SquareRow → Found → Type 0
+IsFound rows k n packed (found.Number m) = Has k (square_in rows k n) packed m
+IsFound rows k n packed (found.Quadrants kids) = kids ≡ kids_at rows n
 
 -- squares of levels up to k are packed, and what is remembered of others is as it was
 pub record Packs (rows : List (List ℕ)) (k : ℕ) (old new : Packed) : Type 0 where

@@ -1,15 +1,15 @@
 //! Squares of a table as planes.
-ghost use Rattle.std.specs.Prelude.{◌≡◌, ◌⊎◌, ◌-◌, ◌<◌, ◌≤◌, ◌^◌, [], true, false, length, None, IfOk, OnOk};
+ghost use Rattle.std.specs.Prelude.{◌≡◌, ◌⊎◌, ℕ, ◌+◌, ◌-◌, ◌<◌, ◌≤◌, ◌^◌, [], true, false, length, None, IfOk, OnOk};
 ghost use Rattle.std.specs.List.{list_any};
 ghost use Rattle.worlds.specs.World.{World};
 ghost use Rattle.worlds.specs.Square.{empty_square};
 ghost use Rattle.worlds.specs.Range.{HasMargin};
 ghost use Rattle.plane_core.specs.Rows.{number_row, same_row, completed};
 ghost use Rattle.plane_core.specs.Walks.{Walks};
-ghost use Rattle.square_table.specs.Squares.{IsHeld, IsNumber, AreNumbers, square_in, level_of, cells_of};
+ghost use Rattle.square_table.specs.Squares.{IsHeld, IsNumber, AreNumbers, first_number, kids_at, square_in, level_of, cells_of};
 ghost use Rattle.square_table.specs.Centred.{IsCentred};
 ghost use Rattle.square_table.specs.Renumbering.{known_of, known_range};
-ghost use Rattle.square_table.specs.Packing.{IsPacking, Packs, WalksFour, IsPadded, SharesSquare, IsAlike, square_by};
+ghost use Rattle.square_table.specs.Packing.{IsFound, IsPacking, Packs, WalksFour, IsPadded, SharesSquare, IsAlike, square_by};
 
 use crate::renumbering::{RANGE, Renumbering};
 use crate::slots::is_same;
@@ -26,6 +26,14 @@ const MOST_LEVEL: u8 = 62;
 struct Quarters {
     kids: [u32; 4],
     level: u8,
+}
+
+// What is found of a square: its number among the rows that are packed, or, where it has none, its
+// quadrants.
+#[derive(Clone, Copy, Debug)]
+enum Found {
+    Number(u32),
+    Quadrants([u32; 4]),
 }
 
 // The rows that are packed, and for each square of the table that was seen its number among them.
@@ -52,7 +60,8 @@ fn complete(squares: &mut Vec<SquareRow>, row: SquareRow) -> Result<u32, AllocEr
     if number >= RANGE {
         return Err(AllocError);
     }
-    squares.push(row)?;
+    squares.reserve(1)?;
+    squares.push_reserved(row);
     Ok(number)
 }
 
@@ -152,7 +161,24 @@ impl<'a> SquareTable<'a> {
         root
     }
 
+    // What is packed of a square, or its quadrants.
+    #[inline(always)]
+    fn find(&self, packed: &Packed, number: u32) -> Found
+        requires above { first_number ≤ number }
+        requires there { number < first_number + length self.now.rows }
+        requires packed { IsPacking self.now.rows packed.now }
+        ensures { (level : ℕ) → 1 ≤ level → IsNumber self.now.rows level number →
+            IsFound self.now.rows level number packed.now.squares.items result }
+    {
+        match packed.numbers.get(number) {
+            Some(known) => Found::Number(known),
+            None => Found::Quadrants(self.quadrants(number)),
+        }
+    }
+
     // Packs the squares of a level that four numbers stand for, and gives their numbers among the rows.
+    // All four are found before the first is packed: they lie far apart in memory, which is waited for
+    // once then.
     #[cycle(pack)]
     #[inline(always)]
     fn pack_kids(
@@ -171,47 +197,70 @@ impl<'a> SquareTable<'a> {
         if level == 0 {
             return Ok(kids);
         }
-        let nw = self.pack_square(packed, level, kids[0])?;
-        let ne = self.pack_square(packed, level, kids[1])?;
-        let sw = self.pack_square(packed, level, kids[2])?;
-        let se = self.pack_square(packed, level, kids[3])?;
+        let nw_found = self.find(packed, kids[0]);
+        let ne_found = self.find(packed, kids[1]);
+        let sw_found = self.find(packed, kids[2]);
+        let se_found = self.find(packed, kids[3]);
+        let nw = self.pack_square(packed, level, kids[0], nw_found)?;
+        let ne = self.pack_square(packed, level, kids[1], ne_found)?;
+        let sw = self.pack_square(packed, level, kids[2], sw_found)?;
+        let se = self.pack_square(packed, level, kids[3], se_found)?;
         Ok([nw, ne, sw, se])
     }
 
-    // The number of a divided square among the rows, packed or not. Most are, so that the look-up
-    // stands where four are asked for, and what it leads to doesn't.
+    // The number of a divided square among the rows, packed or not. It was looked for before those
+    // beside it were packed, and may be among theirs. Most have a number, so that the look-ups stand
+    // where four are asked for, and what they lead to doesn't.
     #[tactic(auto, unfolding(crate::specs::Squares::IsNumber))]
     #[cycle(pack)]
     #[inline(always)]
-    fn pack_square(&self, packed: &mut Packed, level: u8, number: u32) -> Result<u32, AllocError>
+    fn pack_square(
+        &self,
+        packed: &mut Packed,
+        level: u8,
+        number: u32,
+        found: Found,
+    ) -> Result<u32, AllocError>
         requires level { (1 ≤ level) × (level ≤ 61) }
         requires number { IsNumber self.now.rows level number }
         requires packed { IsPacking self.now.rows packed.old }
+        requires found { IsFound self.now.rows level number packed.old.squares.items found }
         ensures walks { IfOk result (Walks level (square_in self.now.rows level number)
             packed.old.squares.items packed.new.squares.items) }
         ensures packs { OnOk result (Packs self.now.rows level packed.old packed.new) }
     {
+        let quadrants = match found {
+            Found::Number(known) => return Ok(known),
+            Found::Quadrants(quadrants) => quadrants,
+        };
         if let Some(known) = packed.numbers.get(number) {
             return Ok(known);
         }
-        self.pack_new(packed, level, number)
+        self.pack_new(packed, level, number, quadrants)
     }
 
-    // Packs a square that wasn't seen, and gives its number among the rows. Its row is a new one, since
-    // the table's squares are distinct.
+    // Packs a square of these quadrants that wasn't seen, and gives its number among the rows. Its row
+    // is a new one, since the table's squares are distinct.
     #[tactic(auto, unfolding(crate::specs::Squares::IsNumber))]
     #[cycle(pack)]
     #[inline(never)]
-    fn pack_new(&self, packed: &mut Packed, level: u8, number: u32) -> Result<u32, AllocError>
+    fn pack_new(
+        &self,
+        packed: &mut Packed,
+        level: u8,
+        number: u32,
+        quadrants: [u32; 4],
+    ) -> Result<u32, AllocError>
         requires level { (1 ≤ level) × (level ≤ 61) }
         requires number { IsNumber self.now.rows level number }
+        requires quadrants { quadrants ≡ kids_at self.now.rows number }
         requires packed { IsPacking self.now.rows packed.old }
         requires new { known_of packed.old.numbers number ≡ None }
         ensures walks { IfOk result (Walks level (square_in self.now.rows level number)
             packed.old.squares.items packed.new.squares.items) }
         ensures packs { OnOk result (Packs self.now.rows level packed.old packed.new) }
     {
-        let kids = self.pack_kids(packed, level - 1, self.quadrants(number))?;
+        let kids = self.pack_kids(packed, level - 1, quadrants)?;
         let known = complete(&mut packed.squares, SquareRow { level, kids })?;
         packed.numbers.insert(number, known);
         Ok(known)
