@@ -55,7 +55,7 @@ impl<'e> Model for Book<'e> {
     ghost view = { state_of };
 
     ghost invariant = { λ book. IsKeptBook (state_of book) book.places.items book.cursor
-        book.issued.items book.facts };
+        book.issued.items book.facts.list };
 }
 
 impl<'e> Book<'e> {

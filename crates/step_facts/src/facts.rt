@@ -1,13 +1,14 @@
 //! The facts.
-ghost use Rattle.std.specs.Prelude.{◌≡◌, ◌+◌, [], Some, length, IfNone, IfOk, IfSome, OnErr, OnOk, IsSome, position};
+ghost use Rattle.std.specs.Prelude.{◌≡◌, ◌+◌, [], Some, length, position, IfOk, IfSome, OnErr, OnOk};
 ghost use Rattle.std.specs.Arc.{arc_value};
+ghost use Rattle.std.specs.Map.{lookup_entry};
+ghost use Rattle.std.specs.NonZero.{non_zero_usize_get};
 ghost use Rattle.std.specs.Option.{option_map, option_to_list};
 ghost use Rattle.std.specs.VecDeque.{deque_capacity, deque_len};
 ghost use Rattle.revision_jobs.specs.Value.{world_after};
 ghost use Rattle.revision_jobs.specs.declared.entry.Step.{Step};
-ghost use Rattle.step_facts.specs.Known.{AddsOnly, known};
+ghost use Rattle.step_facts.specs.Known.{AddsOnly, IsKeptFirst, known, used, without};
 ghost use Rattle.step_facts.specs.Same.{same_step};
-ghost use Rattle.step_facts.specs.Taken.{IsTaken};
 
 use crate::kept::Kept;
 use plane_core::Plane;
@@ -20,7 +21,7 @@ use std::sync::Arc;
 
 /// Steps with the patterns that came of them, the last used first.
 ///
-/// Contracts see them as a list, in which each pattern is the one that comes of its step.
+/// Contracts see them as a list, and how many it may hold.
 #[derive(Drop)]
 pub struct Facts {
     kept: VecDeque<Kept>,
@@ -30,15 +31,15 @@ pub struct Facts {
 
 impl Model for Facts {
     ghost use Rattle.std.specs.Coded.{codes};
-    ghost use Rattle.std.specs.Prelude.{List};
+    ghost use Rattle.std.specs.NonZero.{non_zero_usize_get};
     ghost use Rattle.worlds.specs.World.{coded_world};
-    ghost use Rattle.step_facts.specs.Known.{Fact};
+    ghost use Rattle.step_facts.specs.Known.{FactList};
 
-    ghost Value = { List Fact };
+    ghost Value = { FactList };
 
     ghost coded = { Prim.hlevel (codes, coded_world) };
 
-    ghost view = { λ facts. facts.kept.items };
+    ghost view = { λ facts. record { list = facts.kept.items; most = non_zero_usize_get facts.most } };
 }
 
 // Where the first fact of a step stands, if there is one.
@@ -51,11 +52,8 @@ fn place_of(facts: &VecDeque<Kept>, step: &Step) -> Option<usize>
 
 // The first fact of a step leaves, if there is one.
 fn take_out(facts: &mut VecDeque<Kept>, step: &Step) -> Option<Kept>
-    ensures none { IfNone result
-        ((known facts.old.items step.now ≡ None) × (facts.new ≡ facts.old)) }
-    ensures some { IfSome result (λ fact. IsTaken step.now facts.old.items fact facts.new.items) }
-    ensures rest { (other : Step) →
-        IsSome (known facts.new.items other) → IsSome (known facts.old.items other) }
+    ensures fact { result ≡ lookup_entry (same_step step.now) facts.old.items }
+    ensures rest { facts.new.items ≡ without step.now facts.old.items }
     ensures length { length (option_to_list result) + deque_len facts.new ≡ deque_len facts.old }
     ensures capacity { deque_capacity facts.new ≡ deque_capacity facts.old }
 {
@@ -66,7 +64,7 @@ fn take_out(facts: &mut VecDeque<Kept>, step: &Step) -> Option<Kept>
 impl Facts {
     /// No facts, and room for at most so many.
     pub fn new(alloc: Global, most: NonZeroUsize) -> Facts
-        ensures { result ≡ [] }
+        ensures { result ≡ record { list = []; most = non_zero_usize_get most } }
     {
         Facts {
             kept: VecDeque::new(alloc),
@@ -79,8 +77,9 @@ impl Facts {
     /// the one that was used longest ago goes. Refused, the facts are as they were.
     pub fn keep(&mut self, step: &Step, value: &Arc<Plane>) -> Result<(), AllocError>
         requires { arc_value value.now ≡ world_after step.now }
-        ensures kept { OnOk result (known self.new step.now ≡ Some (world_after step.now)) }
-        ensures adds { AddsOnly step.now self.old self.new }
+        ensures first { OnOk result (IsKeptFirst step.now self.old self.new) }
+        ensures kept { OnOk result (known self.new.list step.now ≡ Some (world_after step.now)) }
+        ensures adds { AddsOnly step.now self.old.list self.new.list }
         ensures unchanged { OnErr result (self.new ≡ self.old) }
     {
         let kept = Kept::of(self.alloc, step, value)?;
@@ -95,10 +94,12 @@ impl Facts {
     /// last.
     pub fn recall(&mut self, step: &Step) -> Result<Option<Arc<Plane>>, AllocError>
         ensures known { IfOk result (λ found.
-            option_map (λ plane. arc_value plane) found ≡ known self.old step.now) }
+            option_map (λ plane. arc_value plane) found ≡ known self.old.list step.now) }
         ensures right { IfOk result (λ found.
             IfSome found (λ plane. arc_value plane ≡ world_after step.now)) }
-        ensures others { (other : Step) → known self.new other ≡ known self.old other }
+        ensures used { self.new.list ≡ used step.now self.old.list }
+        ensures most { self.new.most ≡ self.old.most }
+        ensures others { (other : Step) → known self.new.list other ≡ known self.old.list other }
     {
         let Some(kept) = take_out(&mut self.kept, step) else {
             return Ok(None);

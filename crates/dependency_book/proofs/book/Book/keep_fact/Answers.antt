@@ -14,6 +14,6 @@ invariant_of-self c =
       held = c.self.invariant.held;
       passed = c.self.invariant.passed;
       own = c.self.invariant.own;
-      facts = given_too d.entries c.self.inside.facts c.keep.new.self c.in-Step.step n c.self.invariant.facts
+      facts = given_too d.entries c.self.inside.facts.list c.keep.new.self.list c.in-Step.step n c.self.invariant.facts
           c.keep.ensures.adds there;
     }

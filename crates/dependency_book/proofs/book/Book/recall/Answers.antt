@@ -28,7 +28,7 @@ can_be_entered facts {d} {e} {mark} {s} {found} {plane} same given led empty own
 pub put_arrival-requires : goal.put_arrival-requires
 put_arrival-requires c =
     let h =
-    can_be_entered c.self.inside.facts c.self.view_is c.self.invariant.facts c.requires.led c.requires.empty
+    can_be_entered c.self.inside.facts.list c.self.view_is c.self.invariant.facts c.requires.led c.requires.empty
     c.in-Ok.ensures.step
     c.in-Ok-Some.field-0-is c.in-Ok-Some.ensures.known in
     subst (λ (d : BookState). CanBePut d (step_to c.args.mark) (Known (pattern c.of.result)))
@@ -41,7 +41,7 @@ put_arrival-requires c =
 pub returns-clause-recalls : goal.returns-clause-recalls
 returns-clause-recalls c =
     let h =
-    can_be_entered c.self.inside.facts c.self.view_is c.self.invariant.facts c.requires.led c.requires.empty
+    can_be_entered c.self.inside.facts.list c.self.view_is c.self.invariant.facts c.requires.led c.requires.empty
     c.in-Ok.ensures.step
     c.in-Ok-Some.field-0-is c.in-Ok-Some.ensures.known in
     entered h c.put_arrival.new.self c.of.result
