@@ -1,8 +1,8 @@
 -- The quadrants of a band on the side of an edge, and how far its live cells lie from it.
-use Rattle.plane_core.proofs.Names.{All-cons, All-contains, All-nil, AreFilled, AreKept, AreKids, AreRows, Bounds, Contains, Contains-append_cases, Contains-append_left, Contains-append_right, Contains-get_or, Contains-push}
-use Rattle.plane_core.proofs.Names.{Contains-push_cases, HasLive, IsBand, IsBoundingBox, NamesLive, IsNumber, List, SquareRow, [], ap, ap₂, arith, blank, cases_lt, cell, cell_in, depth, east, edge_of, flat_map, four, get_or, if_live, inl, inr}
-use Rattle.plane_core.proofs.Names.{ints, kid, edge_kids, length, nat_tests, nil_from_length, opposite, pos, refl, root_level, row_at, south, square_in, subst, suc, sym, take, take_all, world_of_rows, zero, ℕ, ℤ, ◌+ℤ◌, ◌+◌, ◌-◌, ◌<◌, ◌^◌}
-use Rattle.plane_core.proofs.Names.{◌∙◌, ◌∷◌, ◌≡◌, ◌≤◌, ◌⊎◌}
+use Rattle.plane_core.proofs.Names.{All-cons, All-contains, All-nil, AreFilled, AreKept, AreKids, AreRows, Bounds, Contains, Contains-append_cases, Contains-append_left, Contains-append_right}
+use Rattle.plane_core.proofs.Names.{Contains-get_or, Contains-push, Contains-push_cases, HasLive, IsBand, IsBoundingBox, NamesLive, IsNumber, List, SquareRow, [], ap, ap₂, arith, blank, cases_lt}
+use Rattle.plane_core.proofs.Names.{cell, cell_in, depth, east, edge_of, flat_map, four, get_or, if_live, inl, inr, ints, kid, edge_kids, length, nat_tests, nil_from_length, opposite, pos, refl}
+use Rattle.plane_core.proofs.Names.{root_level, row_at, south, square_in, subst, suc, sym, take, take_all, world_of_rows, zero, ℕ, ℤ, ◌+ℤ◌, ◌+◌, ◌-◌, ◌<◌, ◌^◌, ◌∙◌, ◌∷◌, ◌≡◌, ◌≤◌, ◌⊎◌}
 use Rattle.worlds.specs.Square.{empty_square}
 use Rattle.plane_core.specs.declared.edges.Edge.{Edge}
 use Rattle.plane_core.specs.declared.edges.Edge.TheVariants.{Left, Top, Right, Bottom}

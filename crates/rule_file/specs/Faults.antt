@@ -1,7 +1,8 @@
 -- The number, the name and the place of each fault of a rule file.
 use Rattle.std.specs.Prelude.{ℕ, List, Option, Some, None, codes}
 use Rattle.rule_file.specs.declared.fault.RuleFault.{RuleFault}
-use Rattle.rule_file.specs.declared.fault.RuleFault.TheVariants.{NoRuleLine, NoTable, MissingDescriptor, BadStates, BadNeighborhood, BadSymmetry, BadVariable, BadTransition, StateTooHigh, FreeResult, TooManyTransitions, BadTree, NotQuiescent, NoMemory}
+use Rattle.rule_file.specs.declared.fault.RuleFault.TheVariants.{NoRuleLine, NoTable, MissingDescriptor, BadStates, BadNeighborhood, BadSymmetry, BadVariable, BadTransition, StateTooHigh, FreeResult}
+use Rattle.rule_file.specs.declared.fault.RuleFault.TheVariants.{TooManyTransitions, BadTree, NotQuiescent, NoMemory}
 
 abbrev pub fault_number : RuleFault → ℕ
 fault_number NoRuleLine = 1

@@ -37,8 +37,8 @@ pub record IsPacking (rows : List (List ℕ)) (packed : Packed) : Type 0 where
       IfSome (known_of packed.numbers n) (Has k (square_in rows k n) packed.squares.items)
   pub seen : (i : ℕ) → i < length packed.squares.items → IsSeen rows packed i
 
--- of the square of level k with the number n its number among the rows of a plane was found, or else
--- its quadrants
+-- of the square of level k with the number n its number among the rows of a plane was found, or
+-- else its quadrants
 abbrev pub IsFound : List (List ℕ) → ℕ → ℕ → List SquareRow → Found → Type 0
 IsFound rows k n packed (found.Number m) = Has k (square_in rows k n) packed m
 IsFound rows k n packed (found.Quadrants kids) = kids ≡ kids_at rows n
