@@ -5,9 +5,16 @@ use std::alloc::{AllocError, Global};
 use std::marker::Model;
 
 /// The items of a `Vec`, which contracts see as the list alone.
-#[derive(Debug, Drop)]
+#[derive(Debug)]
 pub struct Listing<T> {
     items: Vec<T>,
+}
+
+// Written out, as a derived one is proved again in each crate above.
+impl<T: Drop> Drop for Listing<T> {
+    fn drop(self) {
+        let Listing { items: _ } = self;
+    }
 }
 
 impl<T> Model for Listing<T> {
@@ -30,7 +37,8 @@ impl<T> Listing<T> {
     pub fn into_vec(self) -> Vec<T>
         ensures { result.items ≡ self }
     {
-        self.items
+        let Listing { items } = self;
+        items
     }
 
     /// The items in order.

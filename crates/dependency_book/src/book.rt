@@ -23,7 +23,6 @@ use step_facts::Facts;
 
 /// A document, what is known to arrive at its marks, the texts of its bookmarks that are known, the
 /// jobs of a table of entries that are out for others, and steps with what came of them.
-#[derive(Drop)]
 pub struct Book<'e> {
     pub(crate) entries: &'e Entries,
     pub(crate) document: Document,
@@ -38,6 +37,24 @@ pub struct Book<'e> {
     // How often an issue was refused.
     pub(crate) refused: Refusals,
     pub(crate) alloc: Global,
+}
+
+// Written out, as a derived one is proved again in each crate above.
+impl Drop for Book<'_> {
+    fn drop(self) {
+        let Book {
+            entries: _,
+            document: _,
+            issued: _,
+            arrivals: _,
+            texts: _,
+            places: _,
+            cursor: _,
+            facts: _,
+            refused: _,
+            alloc: _,
+        } = self;
+    }
 }
 
 impl<'e> Model for Book<'e> {

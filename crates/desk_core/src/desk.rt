@@ -15,10 +15,19 @@ use std::marker::Model;
 use std::num::NonZeroUsize;
 
 /// A document, what is known of it, and the jobs of a table of entries that are out for the rest.
-#[derive(Drop)]
 pub struct Desk<'e> {
     pub(crate) book: Book<'e>,
     pub(crate) entries: &'e Entries,
+}
+
+// Written out, as a derived one is proved again in each crate above.
+impl Drop for Desk<'_> {
+    fn drop(self) {
+        let Desk {
+            book: _,
+            entries: _,
+        } = self;
+    }
 }
 
 impl<'e> Model for Desk<'e> {

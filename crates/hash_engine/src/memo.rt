@@ -22,7 +22,6 @@ pub(crate) fn full(k: u8) -> u64
 /// The results that are known of a table's squares under one rule, for two counts of generations a
 /// level: the full one, and one other, which a search's generations decide. Those by the full count are
 /// noted in the table.
-#[derive(Drop)]
 pub struct Memo {
     // Those by the other count, by the numbers of the squares, 0 where none is known.
     part: Vec<u32>,
@@ -33,6 +32,19 @@ pub struct Memo {
     // The other count, by k, and the generations that decide it.
     counts: [u64; 62],
     generations: u64,
+}
+
+// Written out, as a derived one is proved again in each crate above.
+impl Drop for Memo {
+    fn drop(self) {
+        let Memo {
+            part: _,
+            is_lean: _,
+            blocks: _,
+            counts: _,
+            generations: _,
+        } = self;
+    }
 }
 
 // The counts less than the full ones for which squares of each level are asked on the way of a

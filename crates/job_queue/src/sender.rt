@@ -12,11 +12,21 @@ use std::sync::Wait;
 
 /// The one end that jobs are offered to. Contracts see the table of its jobs, and the slips of those
 /// that it sent.
-#[derive(Drop)]
 pub struct JobSender {
     pub(crate) end: RuledSender<Job, EndView, Balanced>,
     pub(crate) pass: Pass<Job, EndView>,
     pub(crate) floor: u64,
+}
+
+// Written out, as a derived one is proved again in each crate above.
+impl Drop for JobSender {
+    fn drop(self) {
+        let JobSender {
+            end: _,
+            pass: _,
+            floor: _,
+        } = self;
+    }
 }
 
 impl Model for JobSender {

@@ -32,7 +32,6 @@ use worlds::{Bounds, Cell, CellSet};
 /// many as have numbers, which count from 1 and are below 2^32. A call that would give the number
 /// 2^32 is refused as one without memory. No pattern gets there within the memory of a machine,
 /// since 2^32 rows take over 100 GB while they are made canonical.
-#[derive(Drop)]
 pub struct Plane {
     rows: SharedRows,
     // By state, how many live cells have it.
@@ -40,6 +39,18 @@ pub struct Plane {
     // The least box that holds the live cells.
     bounds: Option<Bounds>,
     alloc: Global,
+}
+
+// Written out, as a derived one is proved again in each crate above.
+impl Drop for Plane {
+    fn drop(self) {
+        let Plane {
+            rows: _,
+            counts: _,
+            bounds: _,
+            alloc: _,
+        } = self;
+    }
 }
 
 impl Model for Plane {

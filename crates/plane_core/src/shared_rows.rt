@@ -8,10 +8,16 @@ use std::marker::Model;
 use std::sync::Arc;
 
 /// A list of rows that doesn't change, shared by all that copy it. Contracts see it as the list.
-#[derive(Drop)]
 pub struct SharedRows {
     // None has no row, so that it takes no memory.
     rows: Option<Arc<Listing<SquareRow>>>,
+}
+
+// Written out, as a derived one is proved again in each crate above.
+impl Drop for SharedRows {
+    fn drop(self) {
+        let SharedRows { rows: _ } = self;
+    }
 }
 
 impl Model for SharedRows {

@@ -11,10 +11,19 @@ use std::sync::Arc;
 use step_engine::EvolveFault;
 
 /// What a worker is asked: to compute the entry at a place, under a number.
-#[derive(Drop)]
 pub struct Job {
     pub number: u32,
     pub place: Place,
+}
+
+// Written out, as a derived one is proved again in each crate above.
+impl Drop for Job {
+    fn drop(self) {
+        let Job {
+            number: _,
+            place: _,
+        } = self;
+    }
 }
 
 /// What came of a job.
@@ -33,12 +42,22 @@ pub enum Outcome {
 /// `again` alone make answers.
 ///
 /// Contracts see the job, the limit, and the value or why there is none.
-#[derive(Drop)]
 pub struct Answer {
     pub(crate) job: Job,
     /// How many squares a step could keep when the job was worked.
     pub(crate) limit: u32,
     pub(crate) outcome: Outcome,
+}
+
+// Written out, as a derived one is proved again in each crate above.
+impl Drop for Answer {
+    fn drop(self) {
+        let Answer {
+            job: _,
+            limit: _,
+            outcome: _,
+        } = self;
+    }
 }
 
 /// The parts of an answer.

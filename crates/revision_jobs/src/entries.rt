@@ -12,10 +12,16 @@ use std::sync::Wait;
 use std::sync::atomic::{AtomicBool, Ordering};
 
 /// An entry, with the flag that asks whoever works it to stop.
-#[derive(Drop)]
 pub struct Slot {
     entry: Entry,
     stop: AtomicBool,
+}
+
+// Written out, as a derived one is proved again in each crate above.
+impl Drop for Slot {
+    fn drop(self) {
+        let Slot { entry: _, stop: _ } = self;
+    }
 }
 
 /// Every entry of a table can be worked.
@@ -28,15 +34,27 @@ impl Keeps<Slot> for Workable {
 }
 
 /// A table of entries. It only grows, and threads that share it push and read without a lock.
-#[derive(Drop)]
 pub struct Entries {
     slots: boxcar::Vec<Slot, Global, Workable>,
 }
 
+// Written out, as a derived one is proved again in each crate above.
+impl Drop for Entries {
+    fn drop(self) {
+        let Entries { slots: _ } = self;
+    }
+}
+
 /// Where an entry stands in a table. It shows that entry for good.
-#[derive(Drop)]
 pub struct Place {
     token: Pushed<Slot, Global, Workable>,
+}
+
+// Written out, as a derived one is proved again in each crate above.
+impl Drop for Place {
+    fn drop(self) {
+        let Place { token: _ } = self;
+    }
 }
 
 impl Entries {

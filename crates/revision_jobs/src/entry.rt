@@ -24,7 +24,6 @@ pub enum Entry {
 
 /// The pattern so many generations later, at most 2^60. The pattern with its cells has states of
 /// the rule, and room for the generations in the range of planes.
-#[derive(Drop)]
 pub struct Step {
     pub rule: Arc<Rule>,
     pub from: Arc<Plane>,
@@ -32,9 +31,20 @@ pub struct Step {
     pub gens: u64,
 }
 
+// Written out, as a derived one is proved again in each crate above.
+impl Drop for Step {
+    fn drop(self) {
+        let Step {
+            rule: _,
+            from: _,
+            cells: _,
+            gens: _,
+        } = self;
+    }
+}
+
 /// The text of a view, for a rule with this name and so many states, at a generation. The pattern
 /// with its cells has states below `states`, and a window keeps its limits.
-#[derive(Drop)]
 pub struct Rendering {
     pub view: View,
     pub from: Arc<Plane>,
@@ -42,6 +52,20 @@ pub struct Rendering {
     pub name: Listing<u8>,
     pub states: u16,
     pub generation: u64,
+}
+
+// Written out, as a derived one is proved again in each crate above.
+impl Drop for Rendering {
+    fn drop(self) {
+        let Rendering {
+            view: _,
+            from: _,
+            cells: _,
+            name: _,
+            states: _,
+            generation: _,
+        } = self;
+    }
 }
 
 impl Entry {

@@ -38,10 +38,17 @@ impl Kind {
 ///
 /// A table is translated to a tree where that has at most 1,000,000 nodes, and then the tree is
 /// asked for the next states.
-#[derive(Debug, Drop)]
+#[derive(Debug)]
 pub struct Rule {
     name: Listing<u8>,
     kind: Kind,
+}
+
+// Written out, as a derived one is proved again in each crate above.
+impl Drop for Rule {
+    fn drop(self) {
+        let Rule { name: _, kind: _ } = self;
+    }
 }
 
 impl Model for Rule {

@@ -42,7 +42,6 @@ pub struct Bookmark {
 /// Interventions, bookmarks and branches stand by rising id. Their ids are counted apart, each from
 /// 1, and none is given twice. Branch 0, which begins with the start, is always there and not
 /// listed.
-#[derive(Drop)]
 pub struct Document {
     pub(crate) rule: Arc<Rule>,
     pub(crate) start: Arc<Plane>,
@@ -54,6 +53,24 @@ pub struct Document {
     pub(crate) last_bookmark: u64,
     pub(crate) last_branch: u64,
     pub(crate) alloc: Global,
+}
+
+// Written out, as a derived one is proved again in each crate above.
+impl Drop for Document {
+    fn drop(self) {
+        let Document {
+            rule: _,
+            start: _,
+            interventions: _,
+            bookmarks: _,
+            branches: _,
+            revision: _,
+            last_intervention: _,
+            last_bookmark: _,
+            last_branch: _,
+            alloc: _,
+        } = self;
+    }
 }
 
 impl Intervention {

@@ -30,7 +30,6 @@ const MANY_SLOTS: usize = 1 << 20;
 ///
 /// Contracts see the quadrants of each square by their numbers, in the order in which the squares
 /// were made, how many squares the table may hold, and what is noted of each.
-#[derive(Drop)]
 pub struct SquareTable<'a> {
     arena: &'a Bump,
     none: &'a [u32; 4],
@@ -42,6 +41,22 @@ pub struct SquareTable<'a> {
     row_count: usize,
     limit: u32,
     alloc: Global,
+}
+
+// Written out, as a derived one is proved again in each crate above.
+impl Drop for SquareTable<'_> {
+    fn drop(self) {
+        let SquareTable {
+            arena: _,
+            none: _,
+            rows: _,
+            slots: _,
+            numbers: _,
+            row_count: _,
+            limit: _,
+            alloc: _,
+        } = self;
+    }
 }
 
 impl<'a> Model for SquareTable<'a> {

@@ -22,11 +22,21 @@ use std::sync::Arc;
 /// Steps with the patterns that came of them, the last used first.
 ///
 /// Contracts see them as a list, and how many it may hold.
-#[derive(Drop)]
 pub struct Facts {
     kept: VecDeque<Kept>,
     most: NonZeroUsize,
     alloc: Global,
+}
+
+// Written out, as a derived one is proved again in each crate above.
+impl Drop for Facts {
+    fn drop(self) {
+        let Facts {
+            kept: _,
+            most: _,
+            alloc: _,
+        } = self;
+    }
 }
 
 impl Model for Facts {
