@@ -3,10 +3,11 @@
 
     bench/steps.py [--desk PROGRAM] [--golly FOLDER] [--only WORD] [--marks COUNT] [--runs COUNT]
 
-A document gets so many counts bookmarks at even distances and is settled once; bgolly goes as far
-in as many increments. The last column is what it costs to settle once more after an intervention at
-0.9 of the way was changed, in the hundred of the first settling. Each number is the median of the
-runs, in processor seconds of the whole process.
+A document gets so many counts bookmarks at even distances and is settled once. bgolly goes as far in
+as many increments, and tells the population of each; and once more without a word, so that it counts
+nothing. The last column is what it costs to settle once more after an intervention at 0.9 of the way
+was changed, in the hundred of the first settling. Each number is the median of the runs, in processor
+seconds of the whole process.
 """
 import statistics
 import sys
@@ -60,8 +61,8 @@ def main():
     words.add_argument("--marks", type=int, default=64)
     given = words.parse_args()
     desk = [given.desk]
-    print(f"| pattern, {given.marks} marks | desk s | bgolly s | ratio | desk MB | bgolly MB | changed, in the hundred |")
-    print("|---|---|---|---|---|---|---|")
+    print(f"| pattern, {given.marks} marks | desk s | bgolly s | ratio | without a word s | ratio | desk MB | bgolly MB | changed, in the hundred |")
+    print("|---|---|---|---|---|---|---|---|---|")
     with tempfile.TemporaryDirectory() as room:
         for name, form, pattern, rule, generations in cases(given.golly):
             if given.only not in name:
@@ -69,16 +70,17 @@ def main():
             for path, text in ((f"{room}/{rule.split()[1]}.rule", rule), (f"{room}/pattern.{form}", pattern)):
                 with open(path, "w", encoding="utf-8") as file:
                     file.write(text)
-            step = generations // given.marks
-            golly = ["bgolly", "-a", "RuleLoader", "-s", f"{room}/", "-q", "-q", "-m", str(generations), "-i", str(step), f"{room}/pattern.{form}"]
+            going = ["-m", str(generations), "-i", str(generations // given.marks), f"{room}/pattern.{form}"]
+            golly = ["bgolly", "-a", "RuleLoader", "-s", f"{room}/"]
             rows = []
             for _ in range(given.runs):
-                first, peak = seconds_of(desk, script(form, pattern, rule, generations, given.marks, False), 1)
+                mine, peak = seconds_of(desk, script(form, pattern, rule, generations, given.marks, False), 1)
                 both, _ = seconds_of(desk, script(form, pattern, rule, generations, given.marks, True), 2)
-                theirs, their_peak, _ = measured(golly)
-                rows.append((first, theirs, first / theirs, peak, their_peak, (both - first) / first * 100))
-            mine, theirs, ratio, peak, their_peak, changed = map(statistics.median, zip(*rows))
-            print(f"| {name} | {mine:.2f} | {theirs:.2f} | {ratio:.2f} | {peak:.0f} | {their_peak:.0f} | {changed:.0f} |", flush=True)
+                theirs, their_peak, _ = measured([*golly, *going])
+                silent, _, _ = measured([*golly, "-q", "-q", *going])
+                rows.append((mine, theirs, mine / theirs, silent, mine / silent, peak, their_peak, (both - mine) / mine * 100))
+            mine, theirs, ratio, silent, to_silent, peak, their_peak, changed = map(statistics.median, zip(*rows))
+            print(f"| {name} | {mine:.2f} | {theirs:.2f} | {ratio:.2f} | {silent:.2f} | {to_silent:.2f} | {peak:.0f} | {their_peak:.0f} | {changed:.0f} |", flush=True)
     return 0
 
 
