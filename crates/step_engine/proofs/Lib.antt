@@ -1,10 +1,4 @@
-pub mod Asks
 pub mod Boxes
-pub mod Mentions
-pub mod Next
-pub mod Offsets
-pub mod Rooms
-pub mod Together
 pub mod Reaching
 pub mod Centring
 pub mod Joins

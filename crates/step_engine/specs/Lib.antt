@@ -1,9 +1,5 @@
-pub mod Asked
 pub mod Evolved
-pub mod Generation
 pub mod Box
-pub mod Listed
-pub mod Room
 pub mod Reach
 pub mod Padded
 pub mod Kept

@@ -6,7 +6,7 @@ ghost use Rattle.worlds.specs.Stop.{CountsStop};
 ghost use Rattle.step_engine.specs.Evolved.{CanEvolve, nothing_shared};
 
 use crate::evolved::{EvolveFault, Evolved, Report};
-use crate::generation::{Generation, next_generation};
+use plain_steps::{Generation, next_generation};
 use plane_core::{Next, Plane, Stop};
 use std::alloc::Global;
 

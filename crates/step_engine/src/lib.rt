@@ -7,26 +7,19 @@
 //! An `Engine` keeps the squares and their results from one call to the next, and goes in leaps as
 //! long as the room for squares allows.
 //!
-//! `evolve_plain` goes one generation after another. Between them a generation is the list of its
-//! live cells and the same cells as a patch. The next one comes of asking the rule once at each
-//! place at and around each listed cell, so a generation's cost grows with its live cells and with
-//! the level of the least square that holds them, and not with their distance.
+//! `evolve_plain` goes one generation after another, each of which `plain_steps` makes.
 #![tactic(auto)]
 
 mod allowance;
-mod asked;
 mod engine;
 mod evolved;
-mod generation;
 mod kept;
 mod margin;
 mod pace;
 mod padding;
 mod pieces;
 mod reach;
-mod room;
 mod shared;
-mod spot;
 
 pub use engine::evolve_plain;
 pub use evolved::{EvolveFault, Evolved, Report};

@@ -1,0 +1,4 @@
+pub mod Asked
+pub mod Generation
+pub mod Listed
+pub mod Room

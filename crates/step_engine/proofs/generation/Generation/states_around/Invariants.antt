@@ -1,8 +1,0 @@
-use Rattle.step_engine.proofs.Names.{around, length, take, ◌≡◌}
-use Rattle.step_engine.proofs.generation.Generation.states_around.Given as goal
-
-abbrev pub invariant-loop-i : goal.invariant-loop-i
-invariant-loop-i l = record {
-  states : take l.i l.states ≡ take l.i (around l.self l.spot.x l.spot.y);
-  nine : length l.states ≡ 9;
-}

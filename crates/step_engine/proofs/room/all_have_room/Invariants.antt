@@ -1,5 +1,0 @@
-use Rattle.step_engine.proofs.Names.{All, CellHasRoom, take}
-use Rattle.step_engine.proofs.room.all_have_room.Given as goal
-
-abbrev pub invariant-loop-cell : goal.invariant-loop-cell
-invariant-loop-cell l = All (CellHasRoom l.patch.level) (take l.cell-index l.cells)
