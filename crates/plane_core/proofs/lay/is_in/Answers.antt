@@ -8,6 +8,6 @@ returns c =
     let end = c.end_of.ensures in
     let right = c.right_of.ensures in
     let not = c.if-span-part.false in (
-      λ t. record { top = search (rules, down.0); bottom = omega (arith, ints); left = grind (arith, ints); right = grind (arith, ints) },
+      λ t. record { top = search (rules, down.0); bottom = omega (arith, ints); left = omega (arith, ints); right = omega (arith, ints) },
       λ h. grind (arith, ints),
     )
