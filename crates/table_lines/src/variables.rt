@@ -20,10 +20,20 @@ use text_lines::{find_byte, number, trim};
 
 /// The variables of a table by their names, which stand in the text. Contracts see them by
 /// `variables_of`.
-#[derive(Debug, Drop)]
+#[derive(Debug)]
 pub struct Variables<'a> {
     defined: u64,
     by_name: IndexMap<&'a [u8], Variable>,
+}
+
+// Written out, as a derived one is proved again at each exit of a function that has one.
+impl Drop for Variables<'_> {
+    fn drop(self) {
+        let Variables {
+            defined: _,
+            by_name: _,
+        } = self;
+    }
 }
 
 impl<'a> Variables<'a> {

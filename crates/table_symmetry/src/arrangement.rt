@@ -17,8 +17,26 @@ use table_lines::{StateSet, Symmetry};
 /// Lists of sets of states, one for each neighbour.
 pub type Circles = Vec<Vec<StateSet>>;
 
-/// The same, each list once.
-type Orders = IndexSet<Vec<StateSet>>;
+// The same, each list once.
+struct DistinctLists {
+    lists: IndexSet<Vec<StateSet>>,
+}
+
+// Written out, as a set's own is proved again at each exit of a function that has one.
+impl Drop for DistinctLists {
+    fn drop(self) {
+        let DistinctLists { lists: _ } = self;
+    }
+}
+
+impl DistinctLists {
+    fn into_lists(self) -> IndexSet<Vec<StateSet>>
+        ensures { result ≡ self.lists }
+    {
+        let DistinctLists { lists } = self;
+        lists
+    }
+}
 
 /// The circle as the maps of the symmetry put it, each arrangement once.
 pub fn arrangements(
@@ -104,7 +122,7 @@ fn add_other(lists: &mut Circles, list: Vec<StateSet>) -> Result<(), AllocError>
 }
 
 // Adds the list to any number, unless it is there.
-fn add_new(lists: &mut Orders, list: Vec<StateSet>) -> Result<(), AllocError>
+fn add_new(lists: &mut IndexSet<Vec<StateSet>>, list: Vec<StateSet>) -> Result<(), AllocError>
     ensures { OnOk result (lists_in lists.new.keys
         ≡ with_one same_sets (lists_in lists.old.keys) list.items) }
 {
@@ -128,19 +146,24 @@ fn all_orders(alloc: Global, circle: &[StateSet]) -> Result<Circles, AllocError>
     ensures { IfOk result (λ lists. lists_in lists.items
         ≡ distinct same_sets (maps.permutations circle.now)) }
 {
-    orders(alloc, circle)?.into_iter().collect(alloc)
+    orders(alloc, circle)?
+        .into_lists()
+        .into_iter()
+        .collect(alloc)
 }
 
 // The same, as they are found.
-fn orders(alloc: Global, circle: &[StateSet]) -> Result<Orders, AllocError>
-    ensures { IfOk result (λ lists. lists_in lists.keys
+fn orders(alloc: Global, circle: &[StateSet]) -> Result<DistinctLists, AllocError>
+    ensures { IfOk result (λ orders. lists_in orders.lists.keys
         ≡ distinct same_sets (maps.permutations circle.now)) }
 {
     match circle.split_first() {
         None => {
-            let mut lists = IndexSet::new(alloc);
-            lists.insert(Vec::new(alloc))?;
-            Ok(lists)
+            let mut orders = DistinctLists {
+                lists: IndexSet::new(alloc),
+            };
+            orders.lists.insert(Vec::new(alloc))?;
+            Ok(orders)
         }
         Some((first, others)) => {
             let shorter = orders(alloc, others)?;
@@ -150,21 +173,27 @@ fn orders(alloc: Global, circle: &[StateSet]) -> Result<Orders, AllocError>
 }
 
 // The orders with one more set, put in at each place, each once.
-fn longer_orders(alloc: Global, set: StateSet, orders: &Orders) -> Result<Orders, AllocError>
-    ensures { IfOk result (λ lists. lists_in lists.keys
-        ≡ distinct same_sets (flat_map (maps.insertions set) (lists_in orders.now.keys))) }
+fn longer_orders(
+    alloc: Global,
+    set: StateSet,
+    orders: &DistinctLists,
+) -> Result<DistinctLists, AllocError>
+    ensures { IfOk result (λ longer. lists_in longer.lists.keys
+        ≡ distinct same_sets (flat_map (maps.insertions set) (lists_in orders.now.lists.keys))) }
 {
-    let mut lists = IndexSet::new(alloc);
-    for list in orders.as_slice() {
-        add_insertions(alloc, &mut lists, set, list)?;
+    let mut longer = DistinctLists {
+        lists: IndexSet::new(alloc),
+    };
+    for list in orders.lists.as_slice() {
+        add_insertions(alloc, &mut longer.lists, set, list)?;
     }
-    Ok(lists)
+    Ok(longer)
 }
 
 // Adds the list with one more set, put in at each place, where that isn't there yet.
 fn add_insertions(
     alloc: Global,
-    lists: &mut Orders,
+    lists: &mut IndexSet<Vec<StateSet>>,
     set: StateSet,
     list: &[StateSet],
 ) -> Result<(), AllocError>

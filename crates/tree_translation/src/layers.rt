@@ -91,6 +91,18 @@ fn results_of(alloc: Global, rows: &[Expanded]) -> Result<Vec<u32>, AllocError>
     rows.iter().map(|row| u32::from(row.result)).collect(alloc)
 }
 
+// Keys, each of which has the number at which it came first.
+struct Distinct<T: Hash + Eq + Drop> {
+    keys: IndexSet<T>,
+}
+
+// Written out, as a set's own is proved again at each exit of a function that has one.
+impl<T: Hash + Eq + Drop> Drop for Distinct<T> {
+    fn drop(self) {
+        let Distinct { keys: _ } = self;
+    }
+}
+
 // The layer of the input at this place of the rows, and the number of each row's tail, by what is
 // left of each row behind the input.
 fn layer_of(
@@ -105,16 +117,20 @@ fn layer_of(
         IsLayer r.0 count) }
     ensures rows { IfOk result (λ r. IsLayerOf place rows.now rests.now r.0 r.1.items) }
 {
-    let mut sets = IndexSet::new(alloc);
-    let mut tails = IndexSet::new(alloc);
+    let mut sets = Distinct {
+        keys: IndexSet::new(alloc),
+    };
+    let mut tails = Distinct {
+        keys: IndexSet::new(alloc),
+    };
     let mut numbers = Vec::with_capacity(alloc, rows.len())?;
     for (row, rest) in rows.iter().zip(rests) {
-        let set = number_in(&mut sets, asked(place, row))?;
-        let number = number_in(&mut tails, Tail { set, rest: *rest })?;
+        let set = number_in(&mut sets.keys, asked(place, row))?;
+        let number = number_in(&mut tails.keys, Tail { set, rest: *rest })?;
         numbers.push(number)?;
     }
-    let sets = sets.as_slice().to_vec(alloc)?;
-    let tails = tails.as_slice().to_vec(alloc)?;
+    let sets = sets.keys.as_slice().to_vec(alloc)?;
+    let tails = tails.keys.as_slice().to_vec(alloc)?;
     Ok((Layer { sets, tails }, numbers))
 }
 

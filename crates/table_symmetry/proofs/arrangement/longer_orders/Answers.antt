@@ -12,4 +12,4 @@ loop-list-preserved c =
 pub returns : goal.returns
 returns c =
     let all = ap lists_in (take_all c.loop-list.list-index c.as_slice-list-items.result.now c.loop-list-test.false ∙ c.as_slice-list-items.ensures.keys) in
-    rw all at c.loop-list.invariant ∙ with_all-distinct same_sets same_sets_decides [] (flat_map (maps.insertions c.args.set) (lists_in c.args.orders.now.keys))
+    rw all at c.loop-list.invariant ∙ with_all-distinct same_sets same_sets_decides [] (flat_map (maps.insertions c.args.set) (lists_in c.args.orders.now.lists.keys))

@@ -3,4 +3,4 @@ use Rattle.table_symmetry.specs.Circle as maps
 use Rattle.table_symmetry.proofs.arrangement.longer_orders.Given as goal
 
 abbrev pub invariant-loop-list : goal.invariant-loop-list
-invariant-loop-list l = lists_in l.lists.keys ≡ with_all same_sets [] (flat_map (maps.insertions l.set) (lists_in (take l.list-index l.list-items)))
+invariant-loop-list l = lists_in l.longer.lists.keys ≡ with_all same_sets [] (flat_map (maps.insertions l.set) (lists_in (take l.list-index l.list-items)))

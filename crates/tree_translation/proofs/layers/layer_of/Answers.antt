@@ -13,12 +13,12 @@ loop-row-preserved c =
     refl c.in-Some.ensures.steps in
     let stored = c.in_ok-number.ensures.stored in
     let asked = c.in_ok-set.ensures.stored in
-    let next : IsNextTail c.args.place c.args.rows.now c.args.rests.now c.loop-row.sets.keys c.number_in.new.keys.keys c.loop-row.tails.keys
+    let next : IsNextTail c.args.place c.args.rows.now c.args.rests.now c.loop-row.sets.keys.keys c.number_in.new.keys.keys c.loop-row.tails.keys.keys
     c.number_in-in-loop-row.new.keys.keys (length c.loop-row.yielded) c.in_ok-number.number c.asked.result tail = record {
-      set_grown = grown-insert_key same_asked c.loop-row.sets.keys c.number_in.new.keys.keys c.asked.result c.in_ok-set.ensures.grown;
+      set_grown = grown-insert_key same_asked c.loop-row.sets.keys.keys c.number_in.new.keys.keys c.asked.result c.in_ok-set.ensures.grown;
       set_inside = slice_get_within c.number_in.new.keys.keys c.in_ok-set.set asked.0 asked.1;
       set_there = get_or_from_slice_get c.number_in.new.keys.keys c.in_ok-set.set asked.0 None asked.1 ∙ asked-same c.asked.result asked.0 asked.2;
-      tail_grown = grown-insert_key same_tail c.loop-row.tails.keys c.number_in-in-loop-row.new.keys.keys tail c.in_ok-number.ensures.grown;
+      tail_grown = grown-insert_key same_tail c.loop-row.tails.keys.keys c.number_in-in-loop-row.new.keys.keys tail c.in_ok-number.ensures.grown;
       tail_inside = slice_get_within c.number_in-in-loop-row.new.keys.keys c.in_ok-number.number stored.0 stored.1;
       tail_there = stored.1 ∙ ap Some (same_from_tail tail stored.0 stored.2);
       row_inside = turn.1;
@@ -33,7 +33,7 @@ returns c =
     let ended = zip_end c.args.rows.now c.args.rests.now c.loop-row.yielded c.into_iter-row-iterator.result c.loop-row.row-iterator c.next.new.self None
     (ap (λ z. z.a.rest.now) same ∙ ap (λ z. z.rest.now) c.zip-row-items.ensures.first ∙ c.iter.ensures.rest)
     (ap (λ z. z.b.rest.now) same ∙ c.zip-row-items.ensures.second.0) c.loop-row.yielded_by refl c.in-None.ensures.steps in
-    let sets : c.in_ok-sets.sets.items ≡ c.loop-row.sets.keys = search rules in
-    let keys : c.in_ok-tails.tails.items ≡ c.loop-row.tails.keys = search rules in
+    let sets : c.in_ok-sets.sets.items ≡ c.loop-row.sets.keys.keys = search rules in
+    let keys : c.in_ok-tails.tails.items ≡ c.loop-row.tails.keys.keys = search rules in
     let all = all-rows (record { sets = c.in_ok-sets.sets; tails = c.in_ok-tails.tails }) c.loop-row.invariant sets keys (omega (arith, ended, c.requires.rests)) in
     record { layer = all.fits; rows = all.of }
