@@ -15,10 +15,16 @@ use std::marker::Model;
 
 /// The live cells of a world, which is what contracts see: a list to go through, and a patch in
 /// which to look one up.
-#[derive(Drop)]
 pub struct Generation {
     cells: Vec<CellSet>,
     patch: Patch<Global>,
+}
+
+// Written out, as a derived one is proved again at each exit of a function that has one.
+impl Drop for Generation {
+    fn drop(self) {
+        let Generation { cells: _, patch: _ } = self;
+    }
 }
 
 impl Model for Generation {

@@ -4,5 +4,6 @@ pub mod Centring
 pub mod Joins
 pub mod Evolving
 pub mod Held
+pub mod Ends
 pub mod Spent
 pub mod Names

@@ -10,7 +10,7 @@ pub use Rattle.square_table.specs.Centred.{IsCentred, edge}
 pub use Rattle.square_table.specs.Loading.{GrowsFor, GrowsFrom, IsRootLevel}
 pub use Rattle.square_table.specs.Made.{AreAmong, HoldsWithin, IsFull, IsMade}
 pub use Rattle.square_table.specs.Squares.{AreDistinct, Grows, GrowsBy, IsNumber, IsSquareOf, Table, Tells, cells_of, first_number, kid_at, kids_at, level_of, number_of, square_in, square_of}
-pub use Rattle.std.proofs.Common.{All, Bool, Contains, List, [], ap, arith, cond, false, filter, get_or, inl, inr, length, min, neg_ℤ, pos, refl, rules, subst, suc, sym}
+pub use Rattle.std.proofs.Common.{All, Bool, Contains, Err, List, [], ap, arith, cond, false, filter, get_or, inl, inr, length, min, neg_ℤ, pos, refl, rules, subst, suc, sym}
 pub use Rattle.std.proofs.Common.{zero, ℕ, ℤ, ◌*◌, ◌+ℤ◌, ◌+◌, ◌-◌, ◌<◌, ◌^◌, ◌↔◌, ◌∙◌, ◌∷◌, ◌≡◌, ◌≢◌, ◌≤ℤ◌, ◌≤◌}
 pub use Rattle.std.proofs.lemmas.Bool.{cases_eq}
 pub use Rattle.std.proofs.lemmas.Int.{ints}

@@ -1,4 +1,5 @@
 use Rattle.step_engine.proofs.Names.{AllBelow, AllBelow-step, HasMargin, HasMargin-less, HasMargin-step, ap, arith, iterate, iterate-one_more, iterate-zero, refl, step, still-iterate, subst, suc, sym, ◌+◌, ◌-◌, ◌∙◌, ◌≡◌}
+use Rattle.step_engine.proofs.Ends.{CountsStop-memory, CountsStop-ok, CountsStop-yes, no_room-memory}
 use Rattle.step_engine.proofs.engine.evolve_plain.Goals as goal
 use Rattle.step_engine.proofs.engine.evolve_plain.Goals.{else-loop-test, then-loop-test+else-poll+in_ok-next_generation+in-None}
 
@@ -40,3 +41,42 @@ returns-clause-plane g c =
       | then-loop-test+else-poll+in_ok-next_generation+in-None w ↦ still-iterate f c.args.plane.now c.loop.now c.loop.counter c.args.generations
           (omega arith) c.loop.invariant.stepped (rw w.in-None.is at w.in_ok-next_generation.ensures.still)
     ]
+
+pub returns-in_err-copy-clause-stop : goal.returns-in_err-copy-clause-stop
+returns-in_err-copy-clause-stop g c = CountsStop-memory c.from_residual.result c.from_residual.ensures.1 refl
+
+pub returns-in_err-copy-clause-room : goal.returns-in_err-copy-clause-room
+returns-in_err-copy-clause-room g c = no_room-memory c.from_residual.result c.from_residual.ensures.1
+
+pub returns-in_err-now-clause-stop : goal.returns-in_err-now-clause-stop
+returns-in_err-now-clause-stop g c = CountsStop-memory c.from_residual-in_err-now.result c.from_residual-in_err-now.ensures.1 refl
+
+pub returns-in_err-now-clause-room : goal.returns-in_err-now-clause-room
+returns-in_err-now-clause-room g c = no_room-memory c.from_residual-in_err-now.result c.from_residual-in_err-now.ensures.1
+
+pub returns-in_err-next_generation-clause-stop : goal.returns-in_err-next_generation-clause-stop
+returns-in_err-next_generation-clause-stop g c = CountsStop-memory c.from_residual-in_err-next_generation.result c.from_residual-in_err-next_generation.ensures.1 (omega (arith, c.if-poll.ensures, c.loop.invariant.asked))
+
+pub returns-in_err-next_generation-clause-room : goal.returns-in_err-next_generation-clause-room
+returns-in_err-next_generation-clause-room g c = no_room-memory c.from_residual-in_err-next_generation.result c.from_residual-in_err-next_generation.ensures.1
+
+pub returns-in_err-plane-clause-stop : goal.returns-in_err-plane-clause-stop
+returns-in_err-plane-clause-stop g c = CountsStop-memory c.from_residual-in_err-plane.result c.from_residual-in_err-plane.ensures.1 (elim c.loop-test.branch [
+  | else-loop-test w ↦ ap g.S.Stop.yes_count w.stop-is ∙ c.loop.invariant.asked
+  | then-loop-test+else-poll+in_ok-next_generation+in-None w ↦ ap g.S.Stop.yes_count w.stop-is ∙ omega (arith, w.if-poll.ensures, c.loop.invariant.asked)
+])
+
+pub returns-in_err-plane-clause-room : goal.returns-in_err-plane-clause-room
+returns-in_err-plane-clause-room g c = no_room-memory c.from_residual-in_err-plane.result c.from_residual-in_err-plane.ensures.1
+
+pub returns-then-generations-eq0-clause-stop : goal.returns-then-generations-eq0-clause-stop
+returns-then-generations-eq0-clause-stop g c = CountsStop-ok _ refl
+
+pub returns-then-poll-clause-stop : goal.returns-then-poll-clause-stop
+returns-then-poll-clause-stop g c = CountsStop-yes (omega (arith, c.if-poll.ensures, c.loop.invariant.asked))
+
+pub returns-clause-stop : goal.returns-clause-stop
+returns-clause-stop g c = CountsStop-ok _ (elim c.loop-test.branch [
+  | else-loop-test w ↦ ap g.S.Stop.yes_count w.stop-is ∙ c.loop.invariant.asked
+  | then-loop-test+else-poll+in_ok-next_generation+in-None w ↦ ap g.S.Stop.yes_count w.stop-is ∙ omega (arith, w.if-poll.ensures, c.loop.invariant.asked)
+])

@@ -1,5 +1,6 @@
-use Rattle.step_engine.proofs.Names.{Table, ap, arith, one_world, rules, ◌≤◌}
+use Rattle.step_engine.proofs.Names.{Err, Table, ap, arith, one_world, refl, rules, ◌∙◌, ◌≤◌}
 use Rattle.step_engine.proofs.Spent.{root-for, root-asked, root-later, later-world, searching, searched, all-put, start-spent, search-spent}
+use Rattle.step_engine.proofs.Ends.{CountsStop-memory, CountsStop-ok, CountsStop-search, CountsStop-table, full-search, full-table, went_on}
 use Rattle.step_engine.proofs.shared.evolve_by.Goals as goal
 
 pub result-requires : goal.result-requires
@@ -15,10 +16,13 @@ returns-clause-asks g c =
     c.in_ok-found.ensures.once c.args.plane.now _ _ root.room.few root.centred.square
 
 pub returns-in_err-root-clause-no_room : goal.returns-in_err-root-clause-no_room
-returns-in_err-root-clause-no_room g c = λ h. start-spent c.rooted.ensures.adds (search rules) c.args.limit (ap (λ (t : Table). t.rows) c.in_ok-table.ensures) (ap (λ (t : Table). t.limit) c.in_ok-table.ensures)
+returns-in_err-root-clause-no_room g c = λ h. start-spent c.rooted.ensures.adds
+    (c.rooted.ensures.full (c.in_err-root.was ∙ ap (λ f. Err f) (full-table c.from_residual-in_err-root.result c.in_err-root.field-0.0 c.from_residual-in_err-root.ensures.1 h)))
+    c.args.limit (ap (λ (t : Table). t.rows) c.in_ok-table.ensures) (ap (λ (t : Table). t.limit) c.in_ok-table.ensures)
 
 pub returns-in_err-found-clause-no_room : goal.returns-in_err-found-clause-no_room
-returns-in_err-found-clause-no_room g c = λ h. search-spent c.rooted.ensures.adds c.in_ok-root.ensures.root c.result.ensures.grows (search rules) c.args.limit
+returns-in_err-found-clause-no_room g c = λ h. search-spent c.rooted.ensures.adds c.in_ok-root.ensures.root c.result.ensures.grows
+    (c.result.ensures.end.full (c.in_err-found.was ∙ ap (λ f. Err f) (full-search c.from_residual-in_err-found.result c.in_err-found.field-0.0 c.from_residual-in_err-found.ensures.1 h))) c.args.limit
     (ap (λ (t : Table). t.rows) c.in_ok-table.ensures) (ap (λ (t : Table). t.limit) c.in_ok-table.ensures)
 
 pub returns-clause-evolved : goal.returns-clause-evolved
@@ -39,3 +43,20 @@ returns-clause-evolved g c =
         put = all-put adds rooted counts.put;
       };
     }
+
+pub returns-in_err-table-clause-stop : goal.returns-in_err-table-clause-stop
+returns-in_err-table-clause-stop g c = CountsStop-memory c.from_residual.result c.from_residual.ensures.1 refl
+
+pub returns-in_err-root-clause-stop : goal.returns-in_err-root-clause-stop
+returns-in_err-root-clause-stop g c = CountsStop-table c.from_residual-in_err-root.result c.in_err-root.field-0.0 c.from_residual-in_err-root.ensures.1 refl
+
+pub returns-in_err-found-clause-stop : goal.returns-in_err-found-clause-stop
+returns-in_err-found-clause-stop g c =
+    CountsStop-search c.from_residual-in_err-found.result c.in_err-found.field-0.0 c.from_residual-in_err-found.ensures.1 c.in_err-found.was c.result.ensures.end.stop
+
+pub returns-in_err-plane-clause-stop : goal.returns-in_err-plane-clause-stop
+returns-in_err-plane-clause-stop g c =
+    CountsStop-memory c.from_residual-in_err-plane.result c.from_residual-in_err-plane.ensures.1 (went_on c.in_ok-found.was c.result.ensures.end.stop)
+
+pub returns-clause-stop : goal.returns-clause-stop
+returns-clause-stop g c = CountsStop-ok _ (went_on c.in_ok-found.was c.result.ensures.end.stop)
