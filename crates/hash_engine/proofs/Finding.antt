@@ -2,7 +2,7 @@
 use Rattle.hash_engine.proofs.Names.{Adds, AddsOf, All, All-cons, All-nil, AreAmong, AreKnown, AreWays, Asks, CanBeAsked, CanSeek, Contains, FindsForAll, GivesOf, Grows, Grows-then, HasPut, HasWays, IsCounted, IsFound, IsMade, IsNumber}
 use Rattle.hash_engine.proofs.Names.{IsNumber-grows, IsPut, IsRemembered, IsResult, IsRightMemo, IsSameRule, KeepsOnWay, KeepsRows, List, Makes, Makes-result, Memo, Puts, Puts-itself, Puts-last, Puts-none, Puts-weaker, PutsOnly, Square}
 use Rattle.hash_engine.proofs.Names.{StandForAll, StandsFor, StaysRight, Table, [], ap, append-nil, arith, cases_eq, cells_of, first_number, get_or, get_or-map, inl, inr, is_put, later, length, length-map, level_of, map, middle, number_of}
-use Rattle.hash_engine.proofs.Names.{one, one_level, picked, refl, result, result-later, result-none, sought, square_in, square_in-grows, subst, suc, sym, ℕ, ◌*◌, ◌+◌, ◌-◌, ◌<◌, ◌^◌, ◌∙◌, ◌∷◌, ◌≡◌, ◌≢◌, ◌≤◌}
+use Rattle.hash_engine.proofs.Names.{Grows-same, one, one_level, picked, refl, result, result-later, result-none, sought, square_in, square_in-grows, subst, suc, sym, ℕ, ◌*◌, ◌+◌, ◌-◌, ◌<◌, ◌^◌, ◌∙◌, ◌∷◌, ◌≡◌, ◌≢◌, ◌≤◌}
 use Rattle.square_table.specs.declared.square.Square as handles
 use Rattle.hash_life.proofs.Shared.Below as states
 use Rattle.hash_engine.specs.Asked.{places_put}
@@ -183,6 +183,11 @@ module _ {t u v : Table} {generations n r : ℕ} {old new : Memo} (one : 0 < gen
 
 pub same_rule : (next : List ℕ → ℕ) (c : ℕ) → IsSameRule next next c c
 same_rule next c = record { meaning = refl; states = refl }
+
+-- where nothing is done
+pub Keeps-itself : {next : List ℕ → ℕ} {c : ℕ} {Way : (Square → Type 0) → Type 0} {t : Table} {memo : Memo} → IsRightMemo next t memo →
+    KeepsOnWay next next c c Way t t memo
+Keeps-itself {next} {c} {Way} {t} right = record { rule = record { meaning = refl; states = refl }; grows = Grows-same t; right = right; adds = λ all way are. are }
 
 -- the table has squares on the way more, or none
 pub Keeps-adds : {next new : List ℕ → ℕ} {c d : ℕ} {Way : (Square → Type 0) → Type 0} {made : List Square} {t u : Table} {memo : Memo} →

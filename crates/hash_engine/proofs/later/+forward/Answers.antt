@@ -1,5 +1,7 @@
-use Rattle.hash_engine.proofs.Names.{IsNumber-grows, arith, rules, sym, ◌<◌, ◌∙◌}
+use Rattle.hash_engine.proofs.Names.{IsNumber-grows, arith, rules, subst, sym, ◌<◌, ◌∙◌}
+use Rattle.hash_engine.specs.Search.{FindsFor, KeepsFor}
 use Rattle.hash_engine.proofs.Standing.{above, within, StandsFor-itself}
+use Rattle.hash_engine.proofs.Ending.{went_on, not_yet, End-found, End-fault}
 use Rattle.hash_engine.proofs.Finding.{Keeps-middle, Keeps-noted, IsFound-none, found_still, asks_still, Asks-grown}
 use Rattle.hash_engine.proofs.Making.{MakesFor-none, MakesFor-noted}
 use Rattle.hash_engine.proofs.Computing.{AreDone-all, FirstAreMade-all, turn_made, middles_can, middles_found, middles_keeps, turn_can, turn_keeps, turn_asks}
@@ -140,3 +142,31 @@ forward-returns g t c =
       asks = asks_still high grows numbered rows noted some made.found made.asks;
       made = MakesFor-noted (g.Q.Ask.meaning c.args.rule.now) c.args.number grows numbered rows noted made.made;
     }
+
+pub forward-returns-then-k-eq0-clause-keeps : goal.forward-returns-then-k-eq0-clause-keeps
+forward-returns-then-k-eq0-clause-keeps g t c =
+    subst (λ k. KeepsFor g.Q.Ask.meaning g.Q.Ask.state_count c.args.rule.now c.put.new.rule k c.args.ahead c.args.number c.args.table.now c.put.new.table c.put.new.memo)
+    (sym c.if-k-eq0.true) c.in_ok-put.ensures.keeps
+
+pub forward-remember-requires-clause-found : goal.forward-remember-requires-clause-found
+forward-remember-requires-clause-found g t c = within c.compute.new.table.rows _ c.in_ok-made.made c.in_ok-made.ensures.found.square.numbered
+
+pub compute-returns-then-first-ahead-clause-end : goal.compute-returns-then-first-ahead-clause-end
+compute-returns-then-first-ahead-clause-end g t c = End-found _ (went_on c.in_ok-all_forward.ensures.end)
+
+pub forward-returns-then-k-eq0-clause-found : goal.forward-returns-then-k-eq0-clause-found
+forward-returns-then-k-eq0-clause-found g t c =
+    subst (λ k. FindsFor (g.Q.Ask.meaning c.args.rule.now) k c.args.ahead c.args.number c.args.table.now c.args.memo.now c.put.new.table c.in_ok-put.field-0) (sym c.if-k-eq0.true) c.in_ok-put.ensures.found
+
+pub forward-returns-then-k-eq0-clause-end : goal.forward-returns-then-k-eq0-clause-end
+forward-returns-then-k-eq0-clause-end g t c = End-found _ (not_yet c.poll.ensures c.if-poll.false)
+
+pub compute-returns-in_err-fours-clause-end : goal.compute-returns-in_err-fours-clause-end
+compute-returns-in_err-fours-clause-end g t c =
+    End-fault c.fours.result c.from_residual-in_err-fours.result c.in_err-fours.field-0.0 c.in_err-fours.was c.from_residual-in_err-fours.ensures.1
+    c.fours.ensures.full (went_on c.in_ok-all_forward.ensures.end)
+
+pub forward-returns-in_err-put-clause-keeps : goal.forward-returns-in_err-put-clause-keeps
+forward-returns-in_err-put-clause-keeps g t c =
+    subst (λ k. KeepsFor g.Q.Ask.meaning g.Q.Ask.state_count c.args.rule.now c.put.new.rule k c.args.ahead c.args.number c.args.table.now c.put.new.table c.put.new.memo)
+    (sym c.if-k-eq0.true) c.put.ensures.keeps

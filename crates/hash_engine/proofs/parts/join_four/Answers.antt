@@ -30,3 +30,21 @@ returns-in_err-se-clause-adds c =
 pub returns-clause-adds : goal.returns-clause-adds
 returns-clause-adds c =
     adds_four c.in_ok-nw.ensures.grows c.in_ok-nw.ensures.one c.in_ok-ne.ensures.grows c.in_ok-ne.ensures.one c.in_ok-sw.ensures.grows c.in_ok-sw.ensures.one c.in_ok-se.ensures.grows c.in_ok-se.ensures.one
+
+pub returns-in_err-nw-clause-grows : goal.returns-in_err-nw-clause-grows
+returns-in_err-nw-clause-grows c = c.join_guessed.ensures.grows
+
+pub returns-in_err-ne-clause-grows : goal.returns-in_err-ne-clause-grows
+returns-in_err-ne-clause-grows c = c.in_ok-nw.ensures.grows ⟫ c.join_guessed-2.ensures.grows
+
+pub returns-in_err-sw-clause-grows : goal.returns-in_err-sw-clause-grows
+returns-in_err-sw-clause-grows c = c.in_ok-nw.ensures.grows ⟫ c.in_ok-ne.ensures.grows ⟫ c.join_guessed-3.ensures.grows
+
+pub returns-in_err-se-clause-grows : goal.returns-in_err-se-clause-grows
+returns-in_err-se-clause-grows c = c.in_ok-nw.ensures.grows ⟫ c.in_ok-ne.ensures.grows ⟫ c.in_ok-sw.ensures.grows ⟫ c.join_guessed-4.ensures.grows
+
+pub returns-clause-grows : goal.returns-clause-grows
+returns-clause-grows c = c.in_ok-nw.ensures.grows ⟫ c.in_ok-ne.ensures.grows ⟫ c.in_ok-sw.ensures.grows ⟫ c.in_ok-se.ensures.grows
+
+pub returns-in_err-nw-clause-adds : goal.returns-in_err-nw-clause-adds
+returns-in_err-nw-clause-adds c = adds_four c.join_guessed.ensures.grows c.join_guessed.ensures.one unchanged (unchanged_by _) unchanged (unchanged_by _) unchanged (unchanged_by _)
