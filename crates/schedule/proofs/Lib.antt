@@ -2,6 +2,7 @@ pub mod Each
 pub mod Shared
 pub mod Below
 pub mod Unrefused
+pub mod Refused
 pub mod Sounds
 pub mod SoundLists
 pub mod Coming

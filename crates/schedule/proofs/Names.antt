@@ -27,7 +27,7 @@ pub use Rattle.schedule.specs.declared.document.Intervention.{Intervention}
 pub use Rattle.std.proofs.Common.{All, Bool, IfSome, List, None, Option, Some, [], ap, ap₂, arith, cond, false, filter, find, flat_map, fold, get_or, if◌then◌else◌, inl, inr, int_le, int_lt, length, length-append, map, max, min, nat_le}
 pub use Rattle.std.proofs.Common.{nat_lt, neg_ℤ, not, pos, position, refl, rules, subst, suc, sym, true, zero, ℕ, ℤ, ◌%◌, ◌&&◌, ◌*◌, ◌++◌, ◌+ℤ◌, ◌+◌, ◌-ℤ◌, ◌-◌, ◌/◌, ◌<ℤ◌, ◌<◌, ◌==◌, ◌^◌, ◌∙◌, ◌∷◌, ◌≡◌, ◌≤ℤ◌, ◌≤◌, ◌⊎◌}
 pub use Rattle.std.proofs.Math.Nat.{add-div_right, add-mod_right, div-eq_of_lt, div-mul-le_self, div-zero, mod-add-div', mod-eq_of_lt, mod-zero, mul-mod_left, zero-mod}
-pub use Rattle.std.proofs.lemmas.Bool.{and_parts, cond-false, leb-false, ltb-false, not-false, or_parts, or_right}
+pub use Rattle.std.proofs.lemmas.Bool.{and_parts, cond-false, le-ltb, leb-false, lt-ltb, ltb-false, not-false, or_parts, or_right}
 pub use Rattle.std.proofs.lemmas.Bool.Decides.{nat_tests}
 pub use Rattle.std.proofs.lemmas.Fn.{filter_same}
 pub use Rattle.std.proofs.lemmas.List.{append-nil, append_assoc, length-map, with_items_is}

@@ -1,8 +1,10 @@
 -- What holds where an edit isn't refused: of the cells, the generations and the branches that it names, of the
 -- marks, and of the revision.
 use Rattle.schedule.proofs.Names.{Acts, AreNamed, Bool, CellSet, IsPlaced, IsTimely, KeepsViewLimits, List, None, Option, Plan, Rule, SetBelow, Some, View, acts_too_far, arith, changed_bookmarks, false, first_of, first_refusal}
-use Rattle.schedule.proofs.Names.{for_bookmark, for_branch, for_cells_before, for_changed, for_changed_intervention, for_inserted, for_intervention, for_marks, for_rule, for_view, fork_of, has_branch, if◌then◌else◌, intervention_branch}
-use Rattle.schedule.proofs.Names.{is_bad_repeat, is_before_fork, is_too_far, leb-false, length, ltb-false, nat_le, nat_tests, not, not-false, refl, repeat_marks, repeats, states_of, true, unwrap_or, with_branch, with_changed_intervention}
+use Rattle.schedule.proofs.Names.{for_bookmark, for_branch, for_cells_before, for_changed, for_changed_intervention, for_inserted, for_intervention}
+use Rattle.schedule.proofs.Names.{for_marks, for_moved_bookmark, for_rule, for_view, fork_of, has_branch, if◌then◌else◌, intervention_branch}
+use Rattle.schedule.proofs.Names.{is_bad_repeat, is_before_fork, is_too_far, leb-false, length, ltb-false, nat_le, nat_tests, not}
+use Rattle.schedule.proofs.Names.{not-false, refl, repeat_marks, repeats, spent, states_of, true, unwrap_or, with_branch, with_changed_intervention}
 use Rattle.schedule.proofs.Names.{with_intervention, ℕ, ◌&&◌, ◌+◌, ◌<◌, ◌^◌, ◌∷◌, ◌≡◌, ◌≤◌}
 use Rattle.schedule.specs.declared.fault.EditFault.{EditFault}
 use Rattle.schedule.specs.declared.fault.EditFault.TheVariants.{GenerationTooFar, BadRepeat, BeforeFork, NoSuchBranch, TooManyInterventions, TooManyBookmarks, TooManyBranches}
@@ -33,6 +35,15 @@ pub record FitMarks (more : Bool) (p q : Plan) : Type 0 where
 
 pub fit_marks : (more : Bool) (p q : Plan) → first_refusal (for_marks more p q) ≡ None → FitMarks more p q
 fit_marks more p q h = grind (arith, nat_tests)
+
+-- nor one more revision
+pub fit_spent : (p : Plan) → first_refusal (spent p) ≡ None → p.revision + 1 < 2 ^ 64
+fit_spent p h = grind (arith, nat_tests)
+
+-- nor a bookmark at another generation
+pub fit_moved : (p : Plan) (id generation : ℕ) → first_refusal (for_moved_bookmark p id generation) ≡ None
+    → p.revision + 1 < 2 ^ 64
+fit_moved p id generation h = grind (arith, nat_tests)
 
 -- nor another rule
 pub fit_rule : (p : Plan) (rule : Rule) → first_refusal (for_rule p rule) ≡ None → p.revision + 1 < 2 ^ 64

@@ -14,4 +14,10 @@ invariant_of-self c =
     grind (arith, long, items, sound)
 
 pub overflow_add-self : goal.overflow_add-self
-overflow_add-self c = grind (arith, fit_change c.args.self.now c.args.id c.args.acts c.args.cells.now)
+overflow_add-self c =
+    let left = (fit_change (plan_of c.self.inside) c.args.id c.args.acts c.args.cells.now
+    (rw (← c.self.view_is) at c.requires)).marks.left in
+    omega (arith, left)
+
+pub change_in-requires : goal.change_in-requires
+change_in-requires c = rw c.deref_mut.ensures.value c.self.invariant.interventions_rise
