@@ -7,9 +7,15 @@ use std::marker::Model;
 use std::sync::Arc;
 
 /// The pattern that arrives at a mark, shared, which contracts see as its world.
-#[derive(Drop)]
 pub(crate) struct Arrival {
     plane: Arc<Plane>,
+}
+
+// Written out, as a derived one is proved again wherever an arrival is dropped.
+impl Drop for Arrival {
+    fn drop(self) {
+        let Arrival { plane: _ } = self;
+    }
 }
 
 impl Model for Arrival {

@@ -44,10 +44,11 @@ impl Book<'_> {
     {
         let before = self.before(mark);
         let interventions = self.document.interventions();
+        let cells = cells_at(self.alloc, interventions, before)?;
         Ok(Step {
             rule: Arc::try_clone(self.document.rule())?,
             from: Arc::try_clone(self.arrived(before))?,
-            cells: cells_at(self.alloc, interventions, before)?,
+            cells,
             gens: mark.generation - before.generation,
         })
     }
@@ -75,11 +76,13 @@ impl Book<'_> {
         let mark = Mark::of(&bookmark);
         let rule = self.document.rule();
         let interventions = self.document.interventions();
+        let cells = cells_at(self.alloc, interventions, mark)?;
+        let name = copied(self.alloc, rule.name())?;
         Ok(Entry::View(Rendering {
             view: bookmark.view,
             from: Arc::try_clone(self.arrived(mark))?,
-            cells: cells_at(self.alloc, interventions, mark)?,
-            name: copied(self.alloc, rule.name())?,
+            cells,
+            name,
             states: rule.states(),
             generation: bookmark.generation,
         }))

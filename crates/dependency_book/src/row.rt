@@ -10,7 +10,6 @@ use ranked_rows::{Ranked, find};
 use revision_jobs::{Entries, Job, Place};
 
 /// What stands in a row.
-#[derive(Drop)]
 pub(crate) enum RowState<V> {
     /// Nothing is known, and no job is out.
     Empty,
@@ -20,11 +19,28 @@ pub(crate) enum RowState<V> {
     Known(V),
 }
 
+// Written out, as a derived one is proved again wherever a row is dropped.
+impl<V: Drop> Drop for RowState<V> {
+    fn drop(self) {
+        match self {
+            RowState::Empty => {}
+            RowState::Expected(_) => {}
+            RowState::Known(_) => {}
+        }
+    }
+}
+
 /// What stands at a key.
-#[derive(Drop)]
 pub(crate) struct Row<K, V> {
     pub(crate) key: K,
     pub(crate) state: RowState<V>,
+}
+
+// Written out, as a derived one is proved again wherever a row is dropped.
+impl<K: Drop, V: Drop> Drop for Row<K, V> {
+    fn drop(self) {
+        let Row { key: _, state: _ } = self;
+    }
 }
 
 /// A key of rows, which stand in the order of their keys' ranks.

@@ -3,6 +3,7 @@ use Rattle.dependency_book.proofs.Names.{sym, world_after, ◌∙◌, ◌≡◌}
 use Rattle.step_facts.specs.Known.{known}
 use Rattle.revision_jobs.specs.declared.entry.Step.{Step as Stepping}
 use Rattle.dependency_book.proofs.Recalled.{CanBeEntered, can_enter, entered, given_before}
+use Rattle.dependency_book.proofs.Shared.Recalling.{recalls_none}
 use Rattle.dependency_book.proofs.Working.{may_change}
 use Rattle.dependency_book.proofs.book.Book.recall.Goals as goal
 
@@ -51,3 +52,18 @@ returns-clause-recalls c =
     (subst (λ (d : BookState). PutsRow (step_to c.args.mark) (Known (pattern c.of.result)) d
     c.put_arrival.new.self)
     c.self.view_is c.put_arrival.ensures.row)
+
+pub returns-in_default-clause-recalls : goal.returns-in_default-clause-recalls
+returns-in_default-clause-recalls c = recalls_none c.args.self.now
+
+pub returns-in_default-clause-right : goal.returns-in_default-clause-right
+returns-in_default-clause-right c = c.step_to.ensures.right
+
+pub returns-in_default-recall-clause-recalls : goal.returns-in_default-recall-clause-recalls
+returns-in_default-recall-clause-recalls c = rw (← c.self.view_is) (recalls_none _)
+
+pub returns-in_default-recall-clause-right : goal.returns-in_default-recall-clause-right
+returns-in_default-recall-clause-right c = c.self.invariant.held.right
+
+pub returns-clause-right : goal.returns-clause-right
+returns-clause-right c = c.put_arrival.ensures.right

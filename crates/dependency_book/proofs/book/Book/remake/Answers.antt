@@ -1,4 +1,4 @@
-use Rattle.dependency_book.proofs.Names.{BookState, arith, asked_of, is_within, state_of, ℕ, ◌≤◌}
+use Rattle.dependency_book.proofs.Names.{Asked, BookState, IfSome, IsRightBook, None, Option, arith, asked_of, is_within, refusal, state_of, subst, sym, ℕ, ◌≡◌, ◌≤◌}
 use Rattle.dependency_book.specs.declared.room.Room.{Room}
 use Rattle.dependency_book.specs.Room.{HasPlaces}
 use Rattle.dependency_book.proofs.Outs.{all_own, held_by}
@@ -53,3 +53,53 @@ returns-clause-keeps c = rw (← c.self.view_is) (made c).0
 
 pub returns-clause-right : goal.returns-clause-right
 returns-clause-right c = (made c).1
+
+-- nothing is said of what isn't there
+none_is : {A : Type 0} (o : Option A) (P : A → Type 0) → o ≡ None → IfSome o P
+none_is o P none = subst (λ x. IfSome x P) (sym none) tt
+
+-- what isn't refused of a book isn't of the same one
+unrefused : {d e : BookState} (asked : Asked) → d ≡ e → refusal d.plan asked ≡ None
+    → refusal e.plan asked ≡ None
+unrefused asked same = subst (λ (b : BookState). refusal b.plan asked ≡ None) same
+
+pub returns-in_err-check-clause-right : goal.returns-in_err-check-clause-right
+returns-in_err-check-clause-right c = subst IsRightBook c.self.view_is c.self.invariant.held.right
+
+pub felt-requires : goal.felt-requires
+felt-requires c = unrefused (asked_of c.args.edit.now) c.self.view_is c.in_ok-check.ensures
+
+pub make-requires : goal.make-requires
+make-requires c = c.in_ok-check.ensures
+
+pub invariant_of-self : goal.invariant_of-self
+invariant_of-self c = rw c.in_err-edited.ensures.unchanged c.self.invariant
+
+pub returns-in_err-edited-clause-right : goal.returns-in_err-edited-clause-right
+returns-in_err-edited-clause-right c = rw c.in_err-edited.ensures.unchanged c.self.invariant.held.right
+
+pub returns-clause-first : goal.returns-clause-first
+returns-clause-first c =
+    none_is (refusal c.args.self.now.plan (asked_of c.args.edit.now)) _
+    (unrefused (asked_of c.args.edit.now) c.self.view_is c.in_ok-check.ensures)
+
+pub returns-in_err-room-clause-right : goal.returns-in_err-room-clause-right
+returns-in_err-room-clause-right c = subst IsRightBook c.self.view_is c.self.invariant.held.right
+
+pub returns-in_err-felt-clause-right : goal.returns-in_err-felt-clause-right
+returns-in_err-felt-clause-right c = subst IsRightBook c.self.view_is c.self.invariant.held.right
+
+pub returns-in_err-room-clause-first : goal.returns-in_err-room-clause-first
+returns-in_err-room-clause-first c =
+    none_is (refusal c.args.self.now.plan (asked_of c.args.edit.now)) _
+    (unrefused (asked_of c.args.edit.now) c.self.view_is c.in_ok-check.ensures)
+
+pub returns-in_err-felt-clause-first : goal.returns-in_err-felt-clause-first
+returns-in_err-felt-clause-first c =
+    none_is (refusal c.args.self.now.plan (asked_of c.args.edit.now)) _
+    (unrefused (asked_of c.args.edit.now) c.self.view_is c.in_ok-check.ensures)
+
+pub returns-in_err-edited-clause-first : goal.returns-in_err-edited-clause-first
+returns-in_err-edited-clause-first c =
+    none_is (refusal c.args.self.now.plan (asked_of c.args.edit.now)) _
+    (unrefused (asked_of c.args.edit.now) c.self.view_is c.in_ok-check.ensures)

@@ -10,7 +10,7 @@ returns-clause-step c =
       comes = c.before-before.ensures.mark;
       rule = rw (c.in_ok-try_clone.ensures, c.rule.ensures, ← c.self.view_is) refl;
       from = c.arrived.ensures ∙ ap (λ w. Some w) (sym c.in_ok-try_clone-2.ensures);
-      cells = rw (c.in_ok-cells_at.ensures, c.interventions-interventions.ensures, ← c.self.view_is) refl;
+      cells = rw (c.in_ok-cells.ensures, c.interventions-interventions.ensures, ← c.self.view_is) refl;
       gap = omega (arith, le);
     }
 

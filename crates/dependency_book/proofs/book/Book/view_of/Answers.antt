@@ -24,7 +24,7 @@ returns-clause-entry c =
       view = refl;
       from = rw c.of-mark.ensures at known;
       cells = rw (
-        c.in_ok-cells_at.ensures,
+        c.in_ok-cells.ensures,
         c.of-mark.ensures,
         c.interventions-interventions.ensures,
         ←
@@ -32,7 +32,7 @@ returns-clause-entry c =
       )
           refl;
       name = rw (
-        c.in_ok-copied.ensures,
+        c.in_ok-name.ensures,
         c.name.ensures,
         c.deref-2.ensures,
         c.rule-rule.ensures,
