@@ -4,9 +4,9 @@ standard error how far it is.
 
 A crate is proved by the toolchain's `rattle` as soon as the crates below it are, from nothing and over
 their statements alone, which is all that it may cite. Crates that don't stand on one another are proved
-side by side, those with the longest way up to the program first, and where there are fewer of them than
-processors, several processes share the proofs of one. What was proved of the same text is kept beside
-the program, in its folder `out`.
+side by side, those with the longest way up to the program first. Where the rest waits for one crate,
+several processes share its proofs, and the other crates give way. What was proved of the same text is kept
+beside the program, in its folder `out`.
 """
 import asyncio
 import contextlib
@@ -36,6 +36,9 @@ LINES_A_SECOND = 10
 GUESSED_LINES = 4000
 # More processes than this gain nothing at one crate.
 MOST_JOBS = 4
+# A crate whose way up to the program is shorter than this part of the longest gives way, as `nice` has it.
+MUCH_LESS_URGENT = 3 / 4
+NICENESS = 10
 # More bytes of memory than a process was seen to take.
 MEMORY = 3_000_000_000
 
@@ -168,11 +171,14 @@ class Refused(Exception):
     """What the toolchain said of a crate that it doesn't prove."""
 
 
-async def run(*words, folder=ROOT):
+async def run(*words, folder=ROOT, niceness=0):
     """Runs a command of the toolchain, which ends with this program."""
     how = {"stdin": asyncio.subprocess.DEVNULL, "stdout": asyncio.subprocess.PIPE, "stderr": asyncio.subprocess.STDOUT}
-    process = await asyncio.create_subprocess_exec(*words, cwd=folder, start_new_session=True, **how)
+    # In a session of its own it would give way to nobody: Linux shares processors among sessions first.
+    process = await asyncio.create_subprocess_exec(*words, cwd=folder, process_group=0, **how)
     try:
+        with contextlib.suppress(ProcessLookupError):
+            os.setpriority(os.PRIO_PROCESS, process.pid, os.nice(0) + niceness)
         said, _ = await process.communicate()
     finally:
         if process.returncode is None:
@@ -196,32 +202,41 @@ def words_for(crate, jobs):
     return [*words, "--links", f"{crate.name}=", "--jobs", str(jobs)]
 
 
-async def prove(crate, jobs, *words):
+async def prove(crate, share, *words):
     """Proves a crate, and builds of it what these words say."""
-    await run(f"{toolchain()}/bin/rattle", "build", *words_for(crate, jobs), *words, folder=crate.folder)
+    words = "build", *words_for(crate, share.jobs), *words
+    await run(f"{toolchain()}/bin/rattle", *words, folder=crate.folder, niceness=share.niceness)
     if crate.sum_now() != crate.sum:
         raise Refused(f"{crate.name} changed while it was proved\n")
 
 
-async def prove_library(crate, jobs):
+async def prove_library(crate, share):
     """Proves a library, and keeps its statements."""
     os.makedirs(KEPT, exist_ok=True)
     with contextlib.suppress(FileNotFoundError):
         os.remove(f"{crate.library}.sum")
-    await prove(crate, jobs, "--statements", "-o", crate.library)
+    await prove(crate, share, "--statements", "-o", crate.library)
     with open(f"{crate.library}.sum", "w", encoding="ascii") as file:
         file.write(crate.sum)
 
 
-async def prove_program(crate, jobs):
+async def prove_program(crate, share):
     """Proves the program, compiles what was proved, and links it."""
     kit, made = toolchain(), f"{OUT}/{PROGRAM}.o"
     os.makedirs(OUT, exist_ok=True)
-    await prove(crate, jobs, "--toolchain", f"{kit}/toolchain", "--backend", "llvm", "-o", made)
+    await prove(crate, share, "--toolchain", f"{kit}/toolchain", "--backend", "llvm", "-o", made)
     words = ["--target", TARGET, "--toolchain", f"{kit}/toolchain", "-o", f"{BUILT}.new", made]
     await run(f"{kit}/bin/rattle-link", *words, f"{kit}/c/libos_c.a", f"{kit}/c/liblibc_c.a")
     # A program that runs keeps its file.
     os.replace(f"{BUILT}.new", BUILT)
+
+
+@dataclasses.dataclass(frozen=True)
+class Share:
+    """How many processes prove a crate, and by how much they give way to others."""
+
+    jobs: int
+    niceness: int = 0
 
 
 def urgency(crate):
@@ -229,43 +244,43 @@ def urgency(crate):
 
 
 def lanes():
-    """How many processes may prove at a time."""
+    """How many crates may be proved at a time."""
     return max(1, min(processors(), free_memory() // MEMORY))
 
 
 def next_to_prove(waiting, running, room):
-    """The crates that can be proved now, and by how many processes each.
+    """The crates that can be proved now, where so many may be under way, and what each gets of the processors.
 
-    Each gets an equal share of those that are idle, of at most two. The most urgent of all under way gets two
-    at least, even if there is one process too many then, and more where no other crate can be proved.
+    Those whose way up to the program is nearly as long as the longest share the processors, with two processes
+    each at least. The others give way to them: they have what is left where one process reads what a crate stands
+    on or writes what it states, and a second process each where a processor has nothing to do.
     """
-    ready = sorted((it for it in waiting if it.below.isdisjoint(waiting | running.keys())), key=urgency, reverse=True)
-    idle, is_only = room - sum(running.values()), len(ready) == 1
-    most_urgent = max(map(urgency, running), default=0)
-    while ready and idle > 0:
-        share = idle // len(ready)
-        crate, jobs = ready.pop(0), min(max(1, share), 2)
-        if urgency(crate) >= most_urgent:
-            jobs, most_urgent = max(min(2, room), min(share, MOST_JOBS) if is_only else 0), urgency(crate)
-        yield crate, jobs
-        idle -= jobs
+    ready = sorted((it for it in waiting if it.below.isdisjoint(waiting | running)), key=urgency, reverse=True)
+    under_way = [*running, *ready[: room - len(running)]]
+    most_urgent = max(map(urgency, under_way), default=0)
+    urgent = [it for it in under_way if urgency(it) > MUCH_LESS_URGENT * most_urgent]
+    for crate in under_way[len(running) :]:
+        if crate in urgent:
+            yield crate, Share(min(room, MOST_JOBS, max(2, room // len(urgent))))
+        else:
+            yield crate, Share(2 if len(under_way) < room else 1, NICENESS)
 
 
 async def prove_all(waiting, progress):
     """Proves crates, each after those below it that are among them."""
-    running, tasks, room = {}, {}, lanes()
+    running, tasks, room = set(), {}, lanes()
     try:
         while waiting or running:
-            for crate, jobs in [*next_to_prove(waiting, running, room)]:
+            for crate, share in [*next_to_prove(waiting, running, room)]:
                 how = prove_program if crate.name == PROGRAM else prove_library
-                tasks[asyncio.create_task(how(crate, jobs))] = crate
-                running[crate] = jobs
+                tasks[asyncio.create_task(how(crate, share))] = crate
+                running.add(crate)
                 waiting.remove(crate)
             ended, _ = await asyncio.wait(tasks, return_when=asyncio.FIRST_COMPLETED)
             for task in ended:
                 await task
                 crate = tasks.pop(task)
-                del running[crate]
+                running.remove(crate)
                 progress.end(crate)
                 if progress.left:
                     tell(f"{crate.name} is proved; about {progress.minutes()} min to go")

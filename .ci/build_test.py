@@ -23,6 +23,11 @@ def crate(name, *uses, lines=1):
     return build.Crate(name, [*uses], ["std"], urgency)
 
 
+def giving_way(jobs):
+    """What a crate gets that is much less urgent than another."""
+    return build.Share(jobs, build.NICENESS)
+
+
 def has_ended(process):
     """Whether a process has gone, or is to be waited for alone."""
     try:
@@ -40,9 +45,8 @@ class Order(unittest.TestCase):
         self.top = crate("top", self.left, self.right, lines=9)
         self.all = {self.low, self.left, self.right, self.top}
 
-    def next(self, done, running, room=4):
-        waiting = self.all - done - running.keys()
-        return [*build.next_to_prove(waiting, running, room)]
+    def next(self, done, *running, room=4):
+        return [*build.next_to_prove(self.all - done - {*running}, {*running}, room)]
 
     def test_the_crates_of_the_program_are_found(self):
         needed = build.crates()
@@ -53,28 +57,28 @@ class Order(unittest.TestCase):
         for at, it in enumerate(needed):
             self.assertLessEqual(it.below, {*needed[:at]})
 
-    def test_a_crate_alone_gets_all_processes(self):
-        self.assertEqual(self.next(set(), {}), [(self.low, 4)])
-        self.assertEqual(self.next({self.low, self.left, self.right}, {}), [(self.top, 4)])
+    def test_a_crate_alone_gets_all_processors(self):
+        self.assertEqual(self.next(set()), [(self.low, build.Share(4))])
+        self.assertEqual(self.next({self.low, self.left, self.right}), [(self.top, build.Share(4))])
 
-    def test_crates_side_by_side_share_them(self):
-        self.assertEqual(self.next({self.low}, {}), [(self.right, 2), (self.left, 2)])
-        self.assertEqual(self.next({self.low}, {}, room=2), [(self.right, 2)])
+    def test_urgent_crates_share_them(self):
+        self.assertEqual(self.next({self.low}), [(self.right, build.Share(2)), (self.left, build.Share(2))])
+        self.assertEqual(self.next({self.low}, self.left), [(self.right, build.Share(2))])
 
-    def test_the_most_urgent_gets_two(self):
-        self.assertEqual(self.next({self.low}, {self.left: 3}), [(self.right, 2)])
-        self.assertEqual(self.next({self.low}, {self.right: 3}), [(self.left, 1)])
+    def test_urgent_crates_get_two_at_least(self):
+        self.assertEqual(self.next({self.low}, room=2), [(self.right, build.Share(2)), (self.left, build.Share(2))])
+        self.assertEqual(self.next({self.low}, self.right, room=2), [(self.left, build.Share(2))])
 
-    def test_the_most_urgent_gets_what_no_other_can_use(self):
-        self.assertEqual(self.next({self.low}, {self.left: 1}), [(self.right, 3)])
-        self.assertEqual(self.next({self.low}, {self.right: 1}), [(self.left, 2)])
+    def test_less_urgent_ones_give_way(self):
+        self.left.urgency = 1
+        self.assertEqual(self.next({self.low}), [(self.right, build.Share(4)), (self.left, giving_way(2))])
+        self.assertEqual(self.next({self.low}, self.left), [(self.right, build.Share(4))])
+        self.assertEqual(self.next({self.low}, room=2), [(self.right, build.Share(2)), (self.left, giving_way(1))])
 
-    def test_a_crate_waits_for_those_below_it_and_for_a_process(self):
-        self.assertEqual(self.next(set(), {self.low: 2}), [])
-        self.assertEqual(self.next({self.low}, {self.right: 4}), [])
-
-    def test_one_process_proves_where_there_is_room_for_one(self):
-        self.assertEqual(self.next(set(), {}, room=1), [(self.low, 1)])
+    def test_a_crate_waits_for_those_below_it_and_for_room(self):
+        self.assertEqual(self.next(set(), self.low), [])
+        self.assertEqual(self.next({self.low}, room=1), [(self.right, build.Share(1))])
+        self.assertEqual(self.next({self.low}, self.right, room=1), [])
 
 
 @unittest.skipUnless(shutil.which("rt"), "the toolchain is not on the PATH")
@@ -93,7 +97,7 @@ class Proofs(unittest.TestCase):
     def test_what_is_proved_is_kept_until_its_text_changes(self):
         proved = crate(LOWEST)
         self.assertFalse(proved.is_kept())
-        asyncio.run(build.prove_library(proved, 2))
+        asyncio.run(build.prove_library(proved, build.Share(2)))
         self.assertTrue(proved.is_kept())
         self.assertTrue(os.path.isdir(proved.library))
         self.append("\n// More.\n")
@@ -102,7 +106,7 @@ class Proofs(unittest.TestCase):
     def test_what_is_wrong_with_a_crate_is_told(self):
         self.append("\nfn wrong() -> u8 {\n    nowhere()\n}\n")
         with self.assertRaises(build.Refused) as refused:
-            asyncio.run(build.prove_library(crate(LOWEST), 1))
+            asyncio.run(build.prove_library(crate(LOWEST), giving_way(1)))
         self.assertIn("nowhere", str(refused.exception))
         self.assertFalse(crate(LOWEST).is_kept())
 
@@ -114,6 +118,11 @@ class Commands(unittest.TestCase):
         with self.assertRaises(build.Refused) as refused:
             asyncio.run(build.run("sh", "-c", "echo why; exit 3"))
         self.assertEqual(str(refused.exception), "why\n")
+
+    def test_a_command_gives_way_as_it_is_told(self):
+        with self.assertRaises(build.Refused) as refused:
+            asyncio.run(build.run("sh", "-c", "sleep 1; nice; exit 3", niceness=7))
+        self.assertEqual(str(refused.exception), f"{min(os.nice(0) + 7, 19)}\n")
 
     def test_a_command_ends_with_who_waits_for_it(self):
         with tempfile.NamedTemporaryFile() as file:
