@@ -36,8 +36,9 @@ LINES_A_SECOND = 10
 GUESSED_LINES = 4000
 # More processes than this gain nothing at one crate.
 MOST_JOBS = 4
-# A crate whose way up to the program is shorter than this part of the longest gives way, as `nice` has it.
+# A crate whose way up to the program is shorter than this part of the longest gives way to the others,
 MUCH_LESS_URGENT = 3 / 4
+# by so much, as `nice` has it.
 NICENESS = 10
 # More bytes of memory than a process was seen to take.
 MEMORY = 3_000_000_000
