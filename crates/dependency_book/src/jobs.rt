@@ -72,7 +72,7 @@ impl Book<'_> {
         }
     }
 
-    /// TakesAnswer an answer of the book's table. Where a row expects its job, the row has the answer's
+    /// Takes an answer of the book's table. Where a row expects its job, the row has the answer's
     /// value, or expects nothing any more where the job gave up. What came of a step is kept, also
     /// where no row expects it any more.
     ///
@@ -97,7 +97,7 @@ impl Book<'_> {
         filled
     }
 
-    // PutsRow what came of a job in the row that expects it, if one does.
+    // Puts what came of a job in the row that expects it, if one does.
     fn take(&mut self, parts: Parts) -> Filled
         requires own { IsOf self.old.table parts.job.place }
         requires right { IsRightAnswer parts.job parts.limit (outcome_of parts.outcome) }
@@ -165,7 +165,7 @@ impl Book<'_> {
         Some((Need::View { id: bookmark.id }, place))
     }
 
-    // PutsRow an outcome in the row of a need: a value, or nothing where there is none.
+    // Puts an outcome in the row of a need: a value, or nothing where there is none.
     fn fill_row(&mut self, need: Need, outcome: Outcome) -> Filled
         requires { CanBePut self.old need (given_by (outcome_of outcome)) }
         ensures filled { result ≡ filled_by (outcome_of outcome) }
@@ -183,7 +183,7 @@ impl Book<'_> {
         Filled::Row
     }
 
-    // PutsRow a pattern in the row of a need, which is a step.
+    // Puts a pattern in the row of a need, which is a step.
     fn put_plane(&mut self, need: Need, plane: Arc<Plane>)
         requires { CanBePut self.old need (Known (pattern (arc_value plane))) }
         ensures row { PutsRow need (Known (pattern (arc_value plane))) self.old self.new }
@@ -195,7 +195,7 @@ impl Book<'_> {
         self.put_arrival(Mark::at(branch, mark), RowState::Known(Arrival::of(plane)));
     }
 
-    // PutsRow a text in the row of a need, which is a view.
+    // Puts a text in the row of a need, which is a view.
     fn put_bytes(&mut self, need: Need, bytes: Arc<Listing<u8>>)
         requires { CanBePut self.old need (Known (text (arc_value bytes))) }
         ensures row { PutsRow need (Known (text (arc_value bytes))) self.old self.new }
@@ -221,7 +221,7 @@ impl Book<'_> {
         }
     }
 
-    /// PutsRow what is known, or out, in the row of a mark. Only a job that is out makes nothing
+    /// Puts what is known, or out, in the row of a mark. Only a job that is out makes nothing
     /// ready.
     pub(crate) fn put_arrival(&mut self, mark: Mark, state: RowState<Arrival>)
         requires { CanBePut self.old (step_to mark) (state_map pattern state) }
@@ -232,7 +232,7 @@ impl Book<'_> {
         put(&mut self.arrivals, mark.rank(), state);
     }
 
-    // PutsRow what is known, or out, in the row of a bookmark. Neither makes another row ready.
+    // Puts what is known, or out, in the row of a bookmark. Neither makes another row ready.
     fn put_text(&mut self, id: u64, state: RowState<Text>)
         requires { CanBePut self.old (Need.View id) (state_map text state) }
         ensures row { PutsRow (Need.View id) (state_map text state) self.old self.new }

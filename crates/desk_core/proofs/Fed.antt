@@ -1,6 +1,7 @@
 -- What feeding a post does with each job.
 use Rattle.desk_core.proofs.Names.{BookState, Bool, Cancels, Cause, Comes, Empty, Expected, FeedsOn, IsRightBook, IssueFault, IssuesFor, Job, Need, None, Option, PostView, RefusesIssue, RowState, Sends, Sent, Serves, Some, Taken, Value, ap}
 use Rattle.desk_core.proofs.Names.{arith, at_rest, cancelled, cause_of_issue, given_of, if◌then◌else◌, inl, inr, is_need, job_of, nat_tests, need_is, need_same, ready, refl, row_of, stage, subst, sym, true, ℕ, ◌+◌, ◌∙◌, ◌≡◌, ◌⊎◌}
+use Rattle.std.specs.Option.{option_map}
 use Rattle.dependency_book.specs.Needs.{IsNext}
 use Rattle.desk_core.specs.Polling.{IsCauseOf}
 use Rattle.desk_core.specs.Feed.{FedUntil, floor_after}
@@ -74,14 +75,19 @@ rows-undone old mid new need job issued right rows other =
         → ((out : Job) → job_of is ≡ Some out → out.number ≡ job.number → b ≡ true) → cancelled job.number is ≡ was
     undone b was is issues empty alone = grind (arith, nat_tests)
 
+cause_is : (refused : Option IssueFault) (told : Option Cause) → IsCauseOf refused told
+    → told ≡ option_map cause_of_issue refused
+cause_is None told is = is
+cause_is (Some fault) told is = is
+
 -- what a feeding leaves
-fed : (first new : BookState) (p q : PostView) (taken : ℕ) (refused : Option IssueFault) (cause : Option Cause)
-    → ((told : Option Cause) → IsCauseOf refused told → told ≡ cause) → Serves first p
-    → Comes (stage first p (at_rest None)) (stage new q (at_rest cause))
+fed : (first new : BookState) (p q : PostView) (taken : ℕ) (refused : Option IssueFault) → Serves first p
+    → Comes (stage first p (at_rest None)) (stage new q (at_rest (option_map cause_of_issue refused)))
     → ((need : Need) → (row_of first need ≡ Empty) ⊎ (row_of new need ≡ row_of first need)) → IsRightBook new
     → q.floor ≡ floor_after p.floor (given_of first) taken → q.answers ≡ p.answers
     → FedUntil p q first new taken refused → FeedsOn p q first new taken refused
-fed first new p q taken refused cause alone serves comes stays right floor silent ended =
+fed first new p q taken refused serves comes stays right floor silent ended =
+    let cause = option_map cause_of_issue refused in
     let come = comes first p (HasCome-first first p (at_rest None) refl refl serves) in
     record {
       feeds = record {
@@ -92,10 +98,12 @@ fed first new p q taken refused cause alone serves comes stays right floor silen
         document = come.document;
         silent = silent;
         ended = ended;
+        calls = come.calls;
       };
       serves = ServesOn-come first new p q (at_rest cause) refl come;
       comes = λ told is.
-          subst (λ c. Comes (stage first p (at_rest None)) (stage new q (at_rest c))) (sym (alone told is)) comes;
+          subst (λ c. Comes (stage first p (at_rest None)) (stage new q (at_rest c)))
+          (sym (cause_is refused told is)) comes;
     }
 
 -- no more job was issued
@@ -103,7 +111,7 @@ pub fed-ended : (first old new : BookState) (p q : PostView) (taken : ℕ) → I
     → HasFed first old p q taken → FeedsOn p q first new taken None
 fed-ended first old new p q taken next same right h =
     subst (λ d. FeedsOn p q first d taken None) (sym same)
-    (fed first old p q taken None None (λ told is. is) h.began h.comes h.stays (subst IsRightBook same right)
+    (fed first old p q taken None h.began h.comes h.stays (subst IsRightBook same right)
     h.floor h.silent (inl (record { given = h.given; asked = h.asked }, next)))
 
 -- an issue was refused
@@ -113,7 +121,7 @@ fed-unissued first old new p q taken fault refuses right h =
     let bars = barred old new fault refuses in
     let cause = Some (cause_of_issue fault) in
     let goes = GoesOn-refused old new q (at_rest None) (at_rest cause) fault refl refl refl refuses in
-    fed first new p q taken (Some fault) cause (λ told is. is) h.began
+    fed first new p q taken (Some fault) h.began
     (λ start begun come. goes.comes start begun (h.comes start begun come))
     (λ need. stays_on (row_of first need) (row_of old need) (row_of new need) (h.stays need) (inr (bars.rows need)))
     right h.floor h.silent (
@@ -131,7 +139,7 @@ fed-refused first old mid new need job p q r taken said issued middle cancels ot
     let held = ready job none in
     let one = issued_given issued in
     let still = same_given cancels.book in
-    fed first new p r taken None None (λ told is. is) h.began
+    fed first new p r taken None h.began
     (λ start begun come. (GoesOn-cancelled mid new r held none cancels refl refl).comes start begun
     ((GoesOn-idle mid q r held held idles refl refl).comes start begun
     ((GoesOn-issued old mid q none need job refl refl issued).comes start begun (h.comes start begun come))))

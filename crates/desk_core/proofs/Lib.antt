@@ -1,3 +1,4 @@
+mod Calls
 mod Fed
 mod Known
 mod Looks

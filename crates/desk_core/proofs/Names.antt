@@ -9,10 +9,11 @@ pub use Rattle.dependency_book.specs.RowState.{has_number, is_empty, job_of}
 pub use Rattle.dependency_book.specs.Rows.{ArrivalRow, TextRow, keys}
 pub use Rattle.dependency_book.specs.declared.row.RowState.{RowState}
 pub use Rattle.dependency_book.specs.declared.row.RowState.TheVariants.{Empty, Expected, Known}
+pub use Rattle.desk_core.specs.Calls.{Call, Cancels, CollectsAs, ComesBy, ComesByAll, GoesByCalls, IssuesNone, StopsAtCause, answer_in, answers_in, first_cause, is_issue, met_by}
 pub use Rattle.desk_core.specs.Cause.{cause_of_answer, cause_of_issue}
 pub use Rattle.desk_core.specs.Issued.{IssuesFor, RefusesIssue}
 pub use Rattle.desk_core.specs.Looks.{AreOfPlan, LooksAt, LooksAtEach, LooksIfAnswered, LooksOn}
-pub use Rattle.desk_core.specs.Progress.{Advances, Asks, CanSendNext, Cancels, CancelsAny, CollectsOn, Comes, FeedsOn, Frees, GoesOn, HasCome, IsAtHand, IsDone, IsDoneBy, Nears, RunsOut, Stage, at_rest, job_in, ready, stage, turns_at}
+pub use Rattle.desk_core.specs.Progress.{Advances, Asks, CanSendNext, CancelsAny, CollectsOn, Comes, FeedsOn, Frees, GoesOn, HasCome, IsAtHand, IsDone, IsDoneBy, KeepsJobs, Nears, RunsOut, Stage, at_rest, job_in, ready, stage, turns_at}
 pub use Rattle.desk_core.specs.Progress.{turns_for, turns_from}
 pub use Rattle.desk_core.specs.Settling.{Ends, Explains, GivesAtMost, HasCause, HoldsAllOut, IsEnding, IsWhy, KeepsKnown, KeepsWhatIsKnown, RanOut, SawStop, Serves, ServesOn, Settles, TellsCause, rows_of}
 pub use Rattle.desk_core.specs.declared.cause.Cause.{Cause}

@@ -1,14 +1,17 @@
 -- How a settling goes on by what is issued, sent, answered and cancelled.
-use Rattle.desk_core.proofs.Names.{BookState, CanSendNext, CancelsAny, Cause, Err, EvolveFault, Explains, Fills, GivesAtMost, GoesOn, HasCome, IfSome, IsOf, IsOwnAnswer, IsRightBook, IssueFault, IssuesFor, Job, JobResult, KeepsKnown}
+use Rattle.desk_core.proofs.Names.{BookState, CanSendNext, CancelsAny, Cause, CollectsAs, Err, EvolveFault, Explains, GivesAtMost, GoesByCalls, GoesOn, HasCome, IfSome, IsOf, IsOwnAnswer, IsRightBook, IssueFault, IssuesFor, Job, JobResult, KeepsJobs, KeepsKnown}
 use Rattle.desk_core.proofs.Names.{KeepsWhatIsKnown, List, Need, None, Nothing, Option, PostView, Progress, Receives, RefusesIssue, SameBook, SameDocument, SawStop, Sends, Sent, Serves, ServesOn, Settles, Some, Stage, Taken, TellsCause, []}
-use Rattle.desk_core.proofs.Names.{ap, append-nil, append_assoc, arith, cause_of_answer, cause_of_issue, empty_rows_of, expected, false, few_rows, given_of, inl, inr, is_some, job_in, job_of, keys, length, length-map, ready, refl, row_of}
+use Rattle.desk_core.proofs.Names.{ap, append-nil, append_assoc, arith, cause_of_answer, cause_of_issue, empty_rows_of, expected, false, few_rows, given_of, inl, inr, is_some, job_in, job_of, keys, length, length-map, met_by, ready, refl, row_of}
 use Rattle.desk_core.proofs.Names.{stage, subst, sym, true, unwrap_or, ℕ, ◌++◌, ◌+◌, ◌<◌, ◌∙◌, ◌∷◌, ◌≡◌, ◌≤◌, ◌⊎◌}
+use Rattle.std.specs.Option.{option_or}
 use Rattle.revision_jobs.specs.declared.post.Received.TheVariants as received
+use Rattle.desk_core.specs.Calls as call
 use Rattle.dependency_book.specs.declared.row.Row.{Row}
 use Rattle.desk_core.specs.declared.collect.Collected.{Collected}
 use Rattle.desk_core.specs.declared.collect.Collected.TheVariants.{Released}
 use Rattle.desk_core.specs.Collected.{IsCollected}
 use Rattle.desk_core.proofs.Shared.Causes.{explains-kept, explains-refused, explains-released, saw-on, saw-refused, saw-released}
+use Rattle.desk_core.proofs.Calls.{calls-cancelled, calls-first, calls-refused, calls-same, calls-then, or-none}
 use Rattle.desk_core.proofs.Known.{KeepsKnown-cancelled, KeepsKnown-filled, KeepsKnown-stays, stays-issued}
 use Rattle.desk_core.proofs.Out.{cancelled_out, filled_out, held_alone, issued_out, not_numbered}
 use Rattle.desk_core.proofs.Shared.Given.{same_given, issued_given}
@@ -52,10 +55,16 @@ none_before a b h none = grind arith
 pub no_cause : (cause : Option Cause) → false ≡ is_some cause → cause ≡ None
 no_cause cause h = grind arith
 
+first_stays : (before after met : Option Cause) → after ≡ option_or before met
+    → IfSome before (λ cause. after ≡ Some cause)
+first_stays before after met is = grind arith
+
 -- where a settling begins
 pub HasCome-first : (d : BookState) (post : PostView) (p : Progress) → p.unsent ≡ Nothing → p.cause ≡ None
     → Serves d post → HasCome d post (stage d post p)
-HasCome-first d post p nothing none serves = grind (arith, append-nil post.answers)
+HasCome-first d post p nothing none serves =
+    let calls : GoesByCalls post post d d p.cause = subst (GoesByCalls post post d d) (sym none) (calls-first post d) in
+    grind (arith, append-nil post.answers)
 
 -- how settlings go on
 
@@ -71,11 +80,11 @@ GoesOn-on s t u h k = record {
 pub GoesOn-idle : (d : BookState) (p q : PostView) (before after : Progress) → Idles p q
     → job_in after.unsent ≡ job_in before.unsent → after.cause ≡ before.cause
     → GoesOn 0 (stage d p before) (stage d q after)
-GoesOn-idle d p q before after idles unsent cause = grind arith
+GoesOn-idle d p q before after idles unsent cause = grind (arith, calls-same)
 
 pub GoesOn-told : (d : BookState) (post : PostView) (p q : Progress) → job_in q.unsent ≡ job_in p.unsent
     → q.cause ≡ p.cause → GoesOn 0 (stage d post p) (stage d post q)
-GoesOn-told d post p q unsent cause = grind arith
+GoesOn-told d post p q unsent cause = grind (arith, calls-same)
 
 -- a job is issued, where there is none to send and no cause
 pub GoesOn-issued : (old new : BookState) (post : PostView) (p : Progress) (need : Need) (job : Job)
@@ -105,6 +114,8 @@ GoesOn-issued old new post p need job was none issued =
             | inr this ↦ inl this
           ];
         };
+        calls = calls-then begun post post first old new p.cause p.cause (call.issues job) h.calls (need, issued)
+            (sym (append-nil post.answers)) (sym (or-none p.cause)) (λ issue. none);
         told = record {
           later = h.told.later;
           gave = h.told.gave;
@@ -134,7 +145,7 @@ lost : (most : ℕ) (old new : BookState) (post : PostView) (p q : Progress) →
     → (expected old need ≡ Some job) × (job_in p.unsent ≡ Some job → job_in q.unsent ≡ Some job))
     → IfSome p.cause (λ cause. q.cause ≡ Some cause)
     → ((first : BookState) (begun : PostView) → HasCome first begun (stage old post p)
-    → TellsCause begun post first new q.cause)
+    → GoesByCalls begun post first new q.cause × TellsCause begun post first new q.cause)
     → GoesOn most (stage old post p) (stage new post q)
 lost most old new post p q known document given more none out cause told = record {
   cause = cause;
@@ -148,7 +159,8 @@ lost most old new post p q known document given more none out cause told = recor
       out = λ need job k. let was = out need job k in still was.1 (h.jobs.out need job was.0);
       at_hand = λ all need job k. let was = out need job k in at_hand was.1 (h.jobs.at_hand all need job was.0);
     };
-    told = told first begun h;
+    calls = (told first begun h).0;
+    told = (told first begun h).1;
     refused = omega (arith, h.refused, more);
     stops = h.stops;
     limit = h.limit;
@@ -186,34 +198,58 @@ GoesOn-refused old new post p q fault none unsent cause refuses =
     (λ job is. sym (ap job_in unsent) ∙ is)
     (λ need job k. (sym (ap job_of (bars.rows need)) ∙ k, λ is. ap job_in unsent ∙ is))
     (subst (λ c. IfSome c (λ first. q.cause ≡ Some first)) (sym none) tt)
-    (λ first begun h. record {
-      later = h.told.later;
-      gave = h.told.gave;
-      explained = subst (λ c. IfSome c (Explains begun.limit first new h.told.later)) (sym cause)
-          (explains-refused begun.limit first old new h.told.later fault h.refused refuses);
-      stopped = subst (λ c. IfSome c (SawStop begun post)) (sym cause) (saw-refused begun post fault);
-    })
+    (λ first begun h. (
+      calls-refused begun post first old new p.cause q.cause fault none cause refuses h.calls,
+      record {
+        later = h.told.later;
+        gave = h.told.gave;
+        explained = subst (λ c. IfSome c (Explains begun.limit first new h.told.later)) (sym cause)
+            (explains-refused begun.limit first old new h.told.later fault h.refused refuses);
+        stopped = subst (λ c. IfSome c (SawStop begun post)) (sym cause) (saw-refused begun post fault);
+      },
+    ))
 
--- an answer comes, with which the cause is told anew
+-- an answer is collected, with which the cause is told anew
+
+jobs-answered : (old new : BookState) (p q : PostView) (before after : Option Job) (answer : JobResult)
+    → Receives p q (received.Answer answer) → SameBook old new → after ≡ before
+    → ((need : Need) (out : Job) → expected new need ≡ Some out
+    → (expected old need ≡ Some out) × (Some answer.job ≡ Some out → ⊥))
+    → (first : BookState) (begun : PostView) → p.is_prompt ≡ begun.is_prompt → KeepsJobs first begun old p before
+    → KeepsJobs first begun new q after
+jobs-answered old new p q before after answer receives same unsent out first begun kind h = grind arith
+
 pub GoesOn-answered : (old new : BookState) (p q : PostView) (before after : Progress) (answer : JobResult)
-    → Receives p q (received.Answer answer) → Fills answer old new → SameBook old new → after.unsent ≡ before.unsent
-    → IfSome before.cause (λ cause. after.cause ≡ Some cause)
+    (collected : Collected) → Receives p q (received.Answer answer) → CollectsAs answer collected old new
+    → after.unsent ≡ before.unsent → after.cause ≡ option_or before.cause (met_by (call.collects answer collected))
     → ((first : BookState) (begun : PostView) → HasCome first begun (stage old p before)
     → TellsCause begun q first new after.cause)
     → GoesOn 0 (stage old p before) (stage new q after)
-GoesOn-answered old new p q before after answer receives fills same unsent cause told =
-    goes_filled (KeepsKnown-filled old new answer fills) (filled_out old new answer fills)
-  where
-    goes_filled : KeepsKnown old new
-        → ((need : Need) (out : Job) → expected new need ≡ Some out
-        → (expected old need ≡ Some out) × (Some answer.job ≡ Some out → ⊥))
-        → GoesOn 0 (stage old p before) (stage new q after)
-    goes_filled known out = record {
-      cause = cause;
-      fits = grind arith;
-      given = grind arith;
-      comes = λ first begun h. let tells = told first begun h in grind arith;
+GoesOn-answered old new p q before after answer collected receives collects unsent cause told =
+    let known = KeepsKnown-filled old new answer collects.fills in
+    let out = filled_out old new answer collects.fills in
+    let same = collects.book in
+    record {
+      cause = first_stays before.cause after.cause (met_by (call.collects answer collected)) cause;
+      fits = fits same;
+      given = let given = same_given same in omega (arith, given);
+      comes = λ first begun h. record {
+        known = λ need value is. known need value (h.known need value is);
+        document = SameDocument-on first old new h.document same.document;
+        jobs = jobs-answered old new p q (job_in before.unsent) (job_in after.unsent) answer receives same
+            (ap job_in unsent) out first begun h.kind h.jobs;
+        calls = calls-then begun p q first old new before.cause after.cause (call.collects answer collected)
+            h.calls collects receives.answers cause (λ issue. absurd (cc));
+        told = told first begun h;
+        refused = omega (arith, h.refused, same.refused);
+        stops = omega (arith, h.stops, receives.stops);
+        limit = receives.same.limit ∙ h.limit;
+        kind = receives.same.kind ∙ h.kind;
+      };
     }
+  where
+    fits : SameBook old new → CanSendNext old p (job_in before.unsent) → CanSendNext new q (job_in after.unsent)
+    fits same fit = grind arith
 
 -- the cause stays
 pub tells-answered : (old new : BookState) (p q : PostView) (before : Progress) (answer : JobResult)
@@ -273,18 +309,21 @@ GoesOn-cancelled old new post p q cancels nothing cause =
     lost 0 old new post p q up.1 up.0.document (same_given up.0) (omega (arith, up.0.refused))
     (λ job is. absurd (cc)) (λ need job k. ((up.2 need job k).0, λ is. absurd ((up.2 need job k).1 is)))
     (same_cause p.cause q.cause cause)
-    (λ first begun h. record {
-      later = h.told.later ++ [];
-      gave = h.told.gave ∙ ap (λ xs. begun.answers ++ xs) (sym (append-nil h.told.later));
-      explained = subst (λ c. IfSome c (Explains begun.limit first new (h.told.later ++ []))) (sym cause)
-          (explains-kept begun.limit first old new h.told.later [] p.cause up.0 h.told.explained);
-      stopped = subst (λ c. IfSome c (SawStop begun post)) (sym cause) h.told.stopped;
-    })
+    (λ first begun h. (
+      calls-cancelled begun post first old new p.cause q.cause (job_in p.unsent) cause cancels h.calls,
+      record {
+        later = h.told.later ++ [];
+        gave = h.told.gave ∙ ap (λ xs. begun.answers ++ xs) (sym (append-nil h.told.later));
+        explained = subst (λ c. IfSome c (Explains begun.limit first new (h.told.later ++ []))) (sym cause)
+            (explains-kept begun.limit first old new h.told.later [] p.cause up.0 h.told.explained);
+        stopped = subst (λ c. IfSome c (SawStop begun post)) (sym cause) h.told.stopped;
+      },
+    ))
 
 -- a job is sent
 pub GoesOn-sent : (d : BookState) (p q : PostView) (progress : Progress) (job : Job) → Sends job p q Taken
     → progress.unsent ≡ Nothing → GoesOn 0 (stage d p (ready job progress)) (stage d q progress)
-GoesOn-sent d p q progress job sends none = grind arith
+GoesOn-sent d p q progress job sends none = grind (arith, calls-same)
 
 -- after an answer that isn't that a job gave up no more rows are wanting
 pub wanting-collected : (old new : BookState) (answer : JobResult) (collected : Collected)

@@ -4,6 +4,7 @@ use Rattle.desk_core.proofs.Names.{JobResult, List, Nears, None, Nothing, Nothin
 use Rattle.desk_core.proofs.Names.{length, pending_of, rows_of, stage, subst, sym, true, turns_at, turns_for, turns_from, ℕ, ◌*◌, ◌+◌, ◌<◌, ◌∙◌, ◌≡◌, ◌≤◌, ◌⊎◌}
 use Rattle.std.proofs.lemmas.List.Sums.{count_by-le-length}
 use Rattle.desk_core.specs.declared.settling.Settling.{Settling}
+use Rattle.desk_core.specs.Settling.{Tells}
 use Rattle.desk_core.proofs.Out.{held_out}
 
 pub nears_on : (s mid t : Stage) (next : ControlFlow Unit Unit) → turns_at mid ≤ turns_at s → Nears mid t next
@@ -107,6 +108,10 @@ pub ends-so : (turns : ℕ) (p q : PostView) (first d : BookState) (later : List
     → pending ≤ length d.plan.bookmarks → (0 < pending → IsWhy turns p q first d later cause)
     → Ends turns p q first d later ending
 ends-so turns p q first d later pending cause ending h count bound why = grind arith
+
+pub tells-so : (pending : ℕ) (cause : Option Cause) (ending : Settling) → IsEnding pending cause ending
+    → Tells cause ending
+tells-so pending cause ending h = grind arith
 
 pub caused-so : (pending : ℕ) (cause : Option Cause) (ending : Settling) → IsEnding pending cause ending
     → (0 < pending → IsSome cause) → HasCause ending

@@ -1,5 +1,6 @@
 -- What feeding a post does to a desk.
 use Rattle.std.specs.Prelude.{◌≡◌, ◌⊎◌, ℕ, ◌+◌, Option, Some, None, if◌then◌else◌, ◌==◌}
+use Rattle.std.specs.Option.{option_map}
 use Rattle.revision_jobs.specs.Posted.{PostView}
 use Rattle.desk_events.specs.declared.need.Need.{Need}
 use Rattle.dependency_book.specs.declared.row.RowState.TheVariants.{Empty}
@@ -8,6 +9,8 @@ use Rattle.dependency_book.specs.BookState.{BookState, given_of, row_of}
 use Rattle.dependency_book.specs.Needs.{IsNext}
 use Rattle.dependency_book.specs.Right.{IsRightBook}
 use Rattle.desk_core.specs.declared.issue.IssueFault.{IssueFault}
+use Rattle.desk_core.specs.Calls.{GoesByCalls}
+use Rattle.desk_core.specs.Cause.{cause_of_issue}
 use Rattle.desk_core.specs.Issued.{RefusesIssue}
 use Rattle.desk_core.specs.Settling.{KeepsWhatIsKnown}
 
@@ -34,7 +37,8 @@ FedUntil p q old new taken None =
     (AsksForNumbers p q old new taken × IsNext new None) ⊎ AsksForNumbers p q old new (taken + 1)
 
 -- so many jobs were taken, whose numbers are those from the first that was given on; whatever stood
--- in a row stands there still, no answer was given, and feeding ended for this refusal, if for one
+-- in a row stands there still, no answer was given, and feeding ended for this refusal, if for one,
+-- which is the first cause that its calls met
 pub record Feeds (p q : PostView) (old new : BookState) (taken : ℕ) (refused : Option IssueFault)
     : Type 0 where
   pub stays : (need : Need) → (row_of old need ≡ Empty) ⊎ (row_of new need ≡ row_of old need)
@@ -44,6 +48,7 @@ pub record Feeds (p q : PostView) (old new : BookState) (taken : ℕ) (refused :
   pub document : SameDocument old new
   pub silent : q.answers ≡ p.answers
   pub ended : FedUntil p q old new taken refused
+  pub calls : GoesByCalls p q old new (option_map cause_of_issue refused)
 
 -- so a post was fed, whatever ended it
 pub record FeedsAll (p q : PostView) (old new : BookState) (taken : ℕ) : Type 0 where

@@ -9,13 +9,14 @@ use Rattle.revision_jobs.specs.Entries.{IsOf}
 use Rattle.revision_jobs.specs.Posted.{PostView, Receives as ReceivesOf}
 use Rattle.revision_jobs.specs.declared.post.Received.TheVariants.{Answer}
 use Rattle.desk_events.specs.declared.need.Need.{Need}
-use Rattle.dependency_book.specs.Jobs.{SameBook, SameDocument, cancelled}
-use Rattle.dependency_book.specs.BookState.{BookState, given_of, row_of, expected, pending_of, empty_rows_of, NothingOut}
+use Rattle.dependency_book.specs.Jobs.{SameDocument}
+use Rattle.dependency_book.specs.BookState.{BookState, given_of, expected, pending_of, empty_rows_of, NothingOut}
 use Rattle.desk_core.specs.declared.cause.Cause.{Cause}
 use Rattle.desk_core.specs.declared.issue.IssueFault.{IssueFault}
 use Rattle.desk_core.specs.declared.progress.Progress.{Progress}
 use Rattle.desk_core.specs.declared.unsent.Unsent.{Unsent}
 use Rattle.desk_core.specs.declared.unsent.Unsent.TheVariants.{Nothing, Ready, Waiting}
+use Rattle.desk_core.specs.Calls.{Cancels, GoesByCalls}
 use Rattle.desk_core.specs.Feed.{Feeds}
 use Rattle.desk_core.specs.Polling.{Collects, IsCauseOf}
 use Rattle.desk_core.specs.Settling.{GivesAtMost, HoldsAllOut, KeepsKnown, Serves, ServesOn, TellsCause}
@@ -25,11 +26,6 @@ abbrev pub job_in : Unsent → Option Job
 job_in Nothing = None
 job_in (Ready job) = Some job
 job_in (Waiting job) = Some job
-
--- the row that expects the job of this number expects nothing any more, and no other row changes
-pub record Cancels (number : ℕ) (old new : BookState) : Type 0 where
-  pub rows : (need : Need) → row_of new need ≡ cancelled number (row_of old need)
-  pub book : SameBook old new
 
 -- a job is cancelled; without one nothing changes
 abbrev pub CancelsAny : Option Job → BookState → BookState → Type 0
@@ -84,13 +80,14 @@ pub record Stage : Type 0 where
 abbrev pub stage : BookState → PostView → Progress → Stage
 stage d post progress = record { desk = d; post = post; progress = progress }
 
--- a settling that began with this desk and this post has come so far: what was known is so still,
--- the document is the same, no job is lost, and the answers, the flags that were seen raised and the
--- refused issues since then explain the cause
+-- a settling that began with this desk and this post has come so far by calls, of which the cause is
+-- the first: what was known is so still, the document is the same, no job is lost, and the answers,
+-- the flags that were seen raised and the refused issues since then explain the cause
 pub record HasCome (first : BookState) (begun : PostView) (s : Stage) : Type 0 where
   pub known : KeepsKnown first s.desk
   pub document : SameDocument first s.desk
   pub jobs : KeepsJobs first begun s.desk s.post (job_in s.progress.unsent)
+  pub calls : GoesByCalls begun s.post first s.desk s.progress.cause
   pub told : TellsCause begun s.post first s.desk s.progress.cause
   pub refused : first.refused ≤ s.desk.refused
   pub stops : begun.stops ≤ s.post.stops

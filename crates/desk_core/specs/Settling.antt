@@ -12,6 +12,7 @@ use Rattle.desk_events.specs.declared.need.Need.{Need}
 use Rattle.dependency_book.specs.declared.row.RowState.TheVariants.{Known}
 use Rattle.dependency_book.specs.BookState.{BookState, given_of, row_of, expected, pending_of}
 use Rattle.dependency_book.specs.Right.{IsRightBook}
+use Rattle.desk_core.specs.Calls.{GoesByCalls}
 use Rattle.desk_core.specs.declared.cause.Cause.{Cause}
 use Rattle.desk_core.specs.declared.cause.Cause.TheVariants.{NoMemory, NoRoom, Stopped, NumbersSpent}
 use Rattle.desk_core.specs.declared.settling.Settling.{Settling}
@@ -131,12 +132,20 @@ Ends turns p q old new later (Unsettled pending cause) =
     (pending ≡ pending_of new) × (0 < pending) × (pending ≤ length new.plan.bookmarks)
     × IsWhy turns p q old new later cause
 
--- so it ends over the answers that a post gave meanwhile
+-- where bookmarks are left pending, this is the cause that is told, or none is
+abbrev pub Tells : Option Cause → Settling → Type 0
+Tells first Settled = ⊤
+Tells first (Unsettled pending cause) = cause ≡ first
+
+-- so it ends over the answers that a post gave meanwhile, by calls whose first cause it tells
 pub record EndsOver (turns : ℕ) (p q : PostView) (old new : BookState) (ending : Settling)
     : Type 0 where
   pub later : List JobResult
   pub gave : q.answers ≡ p.answers ++ later
   pub ends : Ends turns p q old new later ending
+  pub first : Option Cause
+  pub calls : GoesByCalls p q old new first
+  pub tells : Tells first ending
 
 -- so it ends with this number pending: Settled where none is, and else with the cause, if there is
 -- one

@@ -33,7 +33,7 @@ pub use dependency_book::{Shown, ShownRows, Text};
 pub use desk::Desk;
 pub use feeding::feed;
 pub use issue::IssueFault;
-pub use laws::calls_show_only_scratch;
+pub use laws::{calls_are_of_law, calls_show_only_scratch};
 pub use looking::{Onlooker, Unwatched};
 pub use polling::{Polled, poll};
 pub use revision_jobs::{

@@ -1,4 +1,5 @@
 //! Polling a post: what has come is collected, and what is needed next is sent.
+ghost use Rattle.desk_core.specs.Calls.{GoesByCalls};
 ghost use Rattle.desk_core.specs.Polling.{IsCauseOf, Polls};
 ghost use Rattle.desk_core.specs.Progress.{CollectsOn};
 ghost use Rattle.desk_core.specs.Settling.{KeepsWhatIsKnown, Serves, ServesOn, TellsCause};
@@ -30,7 +31,8 @@ pub struct Polled {
 /// are the same (`KeepsWhatIsKnown`); the post serves the desk still (`ServesOn`). The cause is that of an
 /// answer that came, or of the issue that was refused (`TellsCause`). Answers are collected until
 /// the post has none, or 64, and jobs sent until nothing is needed, an issue is refused or one
-/// isn't taken (`Polls`).
+/// isn't taken (`Polls`). All of this is a list of calls on the desk: the cause is the first that
+/// they met, and behind it nothing was issued (`GoesByCalls`).
 ///
 /// Over a post without threads each poll works at most one job, so what it finds depends on the
 /// polls and edits before it alone.
@@ -39,6 +41,7 @@ pub fn poll<P: Post>(rt: &impl Wait, desk: &mut Desk<'_>, post: &mut P) -> Polle
     ensures keeps { KeepsWhatIsKnown desk.old desk.new (P.view post.new) }
     ensures post { ServesOn (P.view post.old) (P.view post.new) desk.old desk.new }
     ensures cause { TellsCause (P.view post.old) (P.view post.new) desk.old desk.new result.cause }
+    ensures calls { GoesByCalls (P.view post.old) (P.view post.new) desk.old desk.new result.cause }
     ensures polls { Polls (P.view post.old) (P.view post.new) desk.old desk.new result }
 {
     if let Some(cause) = collect_all(desk, post) {

@@ -30,7 +30,9 @@ pub enum Settling {
 /// are the same (`Settles`); the post serves the desk still (`ServesOn`). Settled says that nothing
 /// is pending. Unsettled tells how many bookmarks are, and the cause, which an answer that came
 /// meanwhile gives, or an issue that was refused meanwhile; without one the post said Closed or
-/// Ended, or it was asked in every turn (`EndsOver`).
+/// Ended, or it was asked in every turn. All of this is a list of calls on the desk, which collected
+/// each answer that came meanwhile: the cause is the first that they met, and behind it nothing was
+/// issued (`EndsOver`).
 ///
 /// Over a prompt post that holds whatever is out, four turns for each mark and bookmark are always
 /// enough: it settles, or tells a cause. So are 1,000,000.

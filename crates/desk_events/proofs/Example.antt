@@ -24,11 +24,11 @@ rule_free =
 
 -- what may happen where some list of happenings led leads on
 
-more : (h : Happening) (c d : Configuration) → Happens h c d → IsReached 0 c → IsReached 0 d
+pub more : (h : Happening) (c d : Configuration) → Happens h c d → IsReached 0 c → IsReached 0 d
 more h c d this r = reached_then 0 c d h r this
 
 -- an edit that isn't refused
-edited : (c : Configuration) (asked : Asked) (felt : Option Mark) → refusal c.core.plan asked ≡ None
+pub edited : (c : Configuration) (asked : Asked) (felt : Option Mark) → refusal c.core.plan asked ≡ None
     → CanEdit c.core asked felt → IsReached 0 c → IsReached 0 (after_edit asked felt c)
 edited c asked felt free can = more (desk (edits asked felt)) c (after_edit asked felt c) (record {
   can = can;
@@ -39,7 +39,7 @@ edited c asked felt free can = more (desk (edits asked felt)) c (after_edit aske
 })
 
 -- a job is issued
-issues_one : (need : Need) (entry : Entry) (c : Configuration) → CanIssue c.core need entry → IsReached 0 c
+pub issues_one : (need : Need) (entry : Entry) (c : Configuration) → CanIssue c.core need entry → IsReached 0 c
     → IsReached 0 (after (issues need entry) c)
 issues_one need entry c can = more (desk (issues need entry)) c (after (issues need entry) c)
     (record { can = can; core = refl; queued = refl; taken = refl; answers = refl })
@@ -66,7 +66,7 @@ unfolding has_too_many_marks
 is_marked = edited set (AddBookmark 0 8 Counts) None refl (record { rule = tt; felt_there = inr (λ h. h, refl) }) is_set
 
 -- between the start and generation 8 is no mark
-none_between : (g : ℕ) → 0 < g → g < 8 → is_mark marked.core.plan (mark_at 0 g) ≡ false
+pub none_between : (g : ℕ) → 0 < g → g < 8 → is_mark marked.core.plan (mark_at 0 g) ≡ false
 none_between g over under =
     let here : (g == 0) ≡ false = eq_false g 0 (λ is. omega (arith, is, over)) in
     let there : (8 == g) ≡ false = eq_false 8 g (λ is. omega (arith, is, under)) in
@@ -89,7 +89,7 @@ can_step = record {
   few = omega arith;
 }
 
-is_worked : IsReached 0 worked
+pub is_worked : IsReached 0 worked
 is_worked = worked_then 0 arrived (after (issues (Step 0 8) (steps whole_way)) marked) [] (split_at [] [] 0)
     (record { entry = steps whole_way; there = refl; is = refl })
     (issues_one (Step 0 8) (steps whole_way) marked can_step is_marked)

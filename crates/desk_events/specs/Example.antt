@@ -10,15 +10,15 @@ use Rattle.table_lines.specs.declared.transition.Entry.TheVariants as entry
 use Rattle.table_lines.specs.declared.transition.Transition.{Transition}
 use Rattle.bookmarks.specs.declared.view.View.TheVariants.{Counts}
 use Rattle.bookmarks.specs.Counts.{counts_text}
-use Rattle.schedule.specs.declared.acts.Acts.TheVariants.{Once}
-use Rattle.schedule.specs.Asked.{Asked, AddBookmark, Insert, RemoveIntervention, ReplaceRule, SetCells}
+use Rattle.schedule.specs.declared.acts.Acts.TheVariants.{Once, Every}
+use Rattle.schedule.specs.Asked.{Asked, AddBookmark, AddBranch, Insert, RemoveIntervention, ReplaceRule, SetCells}
 use Rattle.schedule.specs.Change.{changed}
 use Rattle.desk_events.specs.declared.mark.Mark.{Mark}
 use Rattle.desk_events.specs.declared.need.Need.TheVariants.{Step, View}
 use Rattle.desk_events.specs.Configuration.{Configuration, IsReached, opened_among, queued_after}
 use Rattle.desk_events.specs.Core.{Answer, awaits, current, holds, nothing, pending, pending_of, shown}
 use Rattle.desk_events.specs.Entry.{Stepping, Viewing, steps, value, views, world_after, world_seen}
-use Rattle.desk_events.specs.Event.{Event, after_event, collects, issues, kept_row}
+use Rattle.desk_events.specs.Event.{Event, after_event, cancels, collects, issues, kept_row, recalls}
 use Rattle.desk_events.specs.Marks.{mark_at}
 
 -- the transition of a cell with these neighbours to the west and the east
@@ -147,3 +147,54 @@ pub record KeptAnswer : Type 0 where
   pub first : shown again.core 1 ≡ current (counts_text (world_seen counts))
   pub second : shown again.core 2 ≡ pending
   pub one_pending : pending_of again.core ≡ 1
+
+-- the first answer comes twice; one of the two is collected, the other lost
+abbrev pub known : Configuration
+known = record (after (collects arrived) worked) { answers = [] }
+
+-- a repeating intervention is inserted and removed again, so that the step is wanted anew
+abbrev pub undone : Configuration
+undone =
+    after_edit (RemoveIntervention 1) (Some (mark_at 0 4))
+    (after_edit (Insert 0 (Every 4 4 8) origin) (Some (mark_at 0 4)) known)
+
+-- what came of job 0, which is that step, is entered once more
+abbrev pub recalled : Configuration
+recalled = after (recalls (mark_at 0 8) 0 whole_way) undone
+
+-- the cell at the origin, which is alive at generation 0, is set alive there: that isn't felt
+abbrev pub unfelt : Configuration
+unfelt = after_edit (Insert 0 (Once 0) origin) None recalled
+
+-- the view of the bookmark is issued as job 1, which is cancelled, and lost
+abbrev pub given_up : Configuration
+given_up = record (after (cancels 1) (after (issues (View 1) (views counts)) unfelt)) {
+  queued = [];
+}
+
+-- it is issued anew as job 2, which is worked, and its answer collected
+abbrev pub told : Answer
+told = record { number = 2; value = Some (value (views counts)) }
+
+abbrev pub viewed : Configuration
+viewed = record (after (collects told) (after (issues (View 1) (views counts)) given_up)) {
+  queued = [];
+}
+
+-- a branch leaves at generation 4, with a bookmark and an intervention that repeats
+abbrev pub branched : Configuration
+branched =
+    after_edit (Insert 1 (Every 5 2 9) origin) (Some (mark_at 1 5))
+    (after_edit (AddBookmark 1 8 Counts) None (after_edit (AddBranch 0 4) None viewed))
+
+-- what is known goes where an edit is felt and stays where it isn't, and a recall and a job that is
+-- issued anew give it again; in the end the first bookmark is current, that of the branch pending
+pub record ManyEvents : Type 0 where
+  pub reached : IsReached 0 branched
+  pub gone : undone.core.rows (Step 0 8) ≡ nothing
+  pub again : recalled.core.rows (Step 0 8) ≡ holds (value (steps whole_way))
+  pub stays : unfelt.core.rows (Step 0 8) ≡ holds (value (steps whole_way))
+  pub cancelled : given_up.core.rows (View 1) ≡ nothing
+  pub first : shown branched.core 1 ≡ current (counts_text (world_seen counts))
+  pub second : shown branched.core 2 ≡ pending
+  pub one_pending : pending_of branched.core ≡ 1

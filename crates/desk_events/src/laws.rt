@@ -1,5 +1,5 @@
 //! Laws of the definitions, each the contract of a function that does nothing.
-ghost use Rattle.desk_events.specs.Example.{AnswerOfOld, KeptAnswer, LateAnswer};
+ghost use Rattle.desk_events.specs.Example.{AnswerOfOld, KeptAnswer, LateAnswer, ManyEvents};
 ghost use Rattle.desk_events.specs.Law.{CallsAreEvents, ShowsOnlyScratch, StaysRight};
 
 /// Whatever happens to a desk and to whoever works its jobs, in whatever order, with jobs and
@@ -25,4 +25,12 @@ pub fn answers_that_are_late()
     ensures late { LateAnswer }
     ensures old { AnswerOfOld }
     ensures kept { KeptAnswer }
+{}
+
+/// A longer worked list of events, to which the law applies. An answer comes twice, and one of the
+/// two is lost. What it gave goes with an edit, and is recalled when the edit was undone; it stays
+/// with an edit that isn't felt. A job is cancelled, lost and issued anew, and a bookmark becomes
+/// current. It stays so when a branch begins, where an intervention acts again and again.
+pub fn many_events()
+    ensures { ManyEvents }
 {}

@@ -16,7 +16,9 @@ mod mark;
 mod need;
 mod touched;
 
-pub use laws::{answers_that_are_late, calls_are_events, whatever_happens_the_desk_is_right};
+pub use laws::{
+    answers_that_are_late, calls_are_events, many_events, whatever_happens_the_desk_is_right,
+};
 pub use mark::Mark;
 pub use need::Need;
 pub use touched::Touched;

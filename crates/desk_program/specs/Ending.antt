@@ -31,9 +31,10 @@ abbrev pub ending_without : PoolFault → Ending
 ending_without pool.NoMemory = Failed NoMemory
 ending_without pool.NoWorker = NoWorker
 
--- words that start no run end the program so: where help can't be written, that is a fault of the
--- writer
+-- words that start no run end the program so: where the text that is asked for can't be written,
+-- that is a fault of the writer
 abbrev pub EndsBy : OptionFault → Ending → Type 0
 EndsBy (words.Help text) ending = (ending ≡ Done) ⊎ (ending ≡ Failed Write)
+EndsBy (words.Version text) ending = (ending ≡ Done) ⊎ (ending ≡ Failed Write)
 EndsBy (words.Refused text) ending = ending ≡ Refused
 EndsBy words.NoMemory ending = ending ≡ Failed NoMemory

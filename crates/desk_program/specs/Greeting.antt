@@ -4,5 +4,5 @@ use Rattle.std.specs.Prelude.{ℕ, Bool, false, true, List, Option, Some, None, 
 -- the line on standard error where a script is typed, and none where it isn't
 abbrev pub greeting_of : Bool → Option (List ℕ)
 greeting_of true =
-    Some (codes "desk: waiting for a script, whose first command is mostly `rule`; see desk --help")
+    Some (codes "desk: waiting for a script; most begin with `rule`, and `help` lists the commands")
 greeting_of false = None

@@ -8,6 +8,7 @@ use crate::ending::Ending;
 use crate::progress::Screen;
 use crate::shown::{Board, ScreenBell};
 use desk_server::{CountedReader, CountedWriter, Entries, Post, RunFault, run, run_seen};
+use desk_words::Facts;
 use std::alloc::Global;
 use std::io::{Read, Write};
 use std::sync::Wait;
@@ -28,7 +29,7 @@ fn run_shown<T: Wait + Clock + Eprint, R: Read, W: Write, L: Ledger, M: Ledger, 
     rt: &T,
     alloc: Global,
     entries: &Entries,
-    facts: u32,
+    facts: Facts,
     reader: &mut CountedReader<R, L>,
     writer: &mut CountedWriter<W, M>,
     post: &mut P,
@@ -45,6 +46,7 @@ fn run_shown<T: Wait + Clock + Eprint, R: Read, W: Write, L: Ledger, M: Ledger, 
     ensures no_memory { result ≡ Err RunFault.NoMemory
         → (reader.new ≡ reader.old) × (writer.new ≡ writer.old) }
 {
+    let facts = facts.get();
     let Some(glimpses) = board else {
         return run(rt, alloc, entries, facts, reader, writer, post);
     };
@@ -70,7 +72,7 @@ pub(crate) fn answer_over<
     rt: &T,
     alloc: Global,
     entries: &Entries,
-    facts: u32,
+    facts: Facts,
     post: &mut P,
     devices: Devices<R, W>,
     board: &mut Board<'_, '_, T>,

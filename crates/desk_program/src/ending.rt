@@ -11,7 +11,7 @@ use std::process::ExitCode;
 /// How the program ends.
 #[derive(Clone, Copy, Debug, PartialEq, Eq)]
 pub enum Ending {
-    /// The script ended or said `quit`, or help was asked for and written.
+    /// The script ended or said `quit`, or help or the version was asked for and written.
     Done,
     /// The command line was refused, which was told.
     Refused,
@@ -71,13 +71,13 @@ impl Ending {
     }
 }
 
-/// Writes the help that was asked for to standard output, or says on standard error why the words
-/// were refused. Out of memory is told with the program's ending.
+/// Writes the help or the version that was asked for to standard output, or says on standard error why
+/// the words were refused. Out of memory is told with the program's ending.
 pub fn report<R: Print + Eprint>(rt: &R, fault: &OptionFault) -> Ending
     ensures { EndsBy fault.now result }
 {
     match fault {
-        OptionFault::Help(text) => {
+        OptionFault::Help(text) | OptionFault::Version(text) => {
             if rt.print(text.as_str()).is_ok() {
                 Ending::Done
             } else {

@@ -1,6 +1,6 @@
 //! What the program does between its start and its ending.
 ghost use Rattle.std.specs.Prelude.{◌≡◌, ◌≤◌, IfOk, Result, drop, false, map, string_bytes, vec_len};
-ghost use Rattle.desk_words.specs.Words.{Checks, IsInRange};
+ghost use Rattle.desk_words.specs.Words.{Checks};
 ghost use Rattle.desk_words.specs.declared.settings.Options.{Options as Chosen};
 ghost use Rattle.desk_words.specs.declared.words.OptionFault.{OptionFault as Fault};
 ghost use Rattle.job_pool.specs.Pool.{new_pool};
@@ -10,10 +10,10 @@ use crate::devices::{Devices, answer_over};
 use crate::ending::{Ending, report, tell};
 use crate::progress::{Glimpses, Screen, empty_board, watch};
 use crate::shown::{Board, end};
-use crate::typed::greet;
+use crate::typed::{TypedReader, TypedWriter, greet};
 use desk_board::Viewer;
 use desk_server::{Entries, RunFault};
-use desk_words::{Options, check_words};
+use desk_words::{Options, Workers, check_words};
 use job_pool::{NoPool, PoolPost, pool};
 use revision_jobs::NoGate;
 use std::alloc::{AllocError, Global};
@@ -26,11 +26,11 @@ use std::time::Clock;
 use std::{io, thread};
 
 // A gate that does nothing for each worker.
-fn no_gates(alloc: Global, workers: u8) -> Result<Vec<NoGate>, AllocError>
-    ensures { IfOk result (λ gates. vec_len gates ≡ workers) }
+fn no_gates(alloc: Global, workers: Workers) -> Result<Vec<NoGate>, AllocError>
+    ensures { IfOk result (λ gates. (vec_len gates ≡ workers) × (1 ≤ workers) × (workers ≤ 8)) }
 {
     let mut gates = Vec::new(alloc);
-    'gates: for made in 0..workers {
+    'gates: for made in 0..workers.get() {
         gates.push(NoGate)?;
     }
     Ok(gates)
@@ -51,8 +51,7 @@ where
     T: Threads + Wait + Clock + Eprint + Sync,
     R: Read + Drop,
     W: Write + Drop,
-    requires range { IsInRange options }
-    requires devices { AreOpenable devices L.name L.parts M.name M.parts }
+    requires { AreOpenable devices L.name L.parts M.name M.parts }
     ensures { Answers false R.remaining W.contents devices.reader devices.writer
         result.0 result.1 result.2 }
 {
@@ -72,7 +71,7 @@ where
         let _limit = squares;
         answer_over::<_, _, _, L, M, _>(rt, alloc, entries, facts, post, devices, board, screen)
     };
-    match pool(rt, alloc, entries, gates, squares, devices, body) {
+    match pool(rt, alloc, entries, gates, squares.get(), devices, body) {
         Ok(answered) => answered,
         Err(
             NoPool {
@@ -99,8 +98,7 @@ where
     T: Threads + Wait + Clock + Eprint + Sync,
     R: Read + Drop,
     W: Write + Drop,
-    requires range { IsInRange options }
-    requires devices { AreOpenable devices L.name L.parts M.name M.parts }
+    requires { AreOpenable devices L.name L.parts M.name M.parts }
     ensures { Answers false R.remaining W.contents devices.reader devices.writer
         result.0 result.1 result.2 }
 {
@@ -108,7 +106,6 @@ where
         thread::scope_env(),
         rt,
         move |scope| -> (Ending, R, W)
-            requires range { IsInRange options }
             requires devices { AreOpenable devices L.name L.parts M.name M.parts }
             ensures { Answers false R.remaining W.contents devices.reader devices.writer
                 result.0 result.1 result.2 }
@@ -135,8 +132,7 @@ where
     T: Threads + Wait + Clock + Eprint + Sync,
     R: Read + Drop,
     W: Write + Drop,
-    requires range { IsInRange options }
-    requires devices { AreOpenable devices L.name L.parts M.name M.parts }
+    requires { AreOpenable devices L.name L.parts M.name M.parts }
     ensures { Answers false R.remaining W.contents devices.reader devices.writer
         result.0 result.1 result.2 }
 {
@@ -166,12 +162,41 @@ where
     answered
 }
 
+// Answers the script, with hints on these outputs, if there are any.
+fn answer_hinted<T, H: Eprint, R, W, L: Ledger, M: Ledger>(
+    rt: &T,
+    outputs: Option<&H>,
+    alloc: Global,
+    options: Options,
+    devices: Devices<R, W>,
+) -> (Ending, R, W)
+where
+    T: Threads + Wait + Clock + Eprint + Sync,
+    R: Read + Drop,
+    W: Write + Drop,
+    requires { AreOpenable devices L.name L.parts M.name M.parts }
+    ensures { Answers false R.remaining W.contents devices.reader devices.writer
+        result.0 result.1 result.2 }
+{
+    let reader = TypedReader::new(alloc, devices.reader, outputs);
+    let writer = TypedWriter::new(devices.writer, outputs);
+    let typed = Devices {
+        reader,
+        writer,
+        reader_blank: devices.reader_blank,
+        writer_blank: devices.writer_blank,
+    };
+    let answered = answer::<_, _, _, L, M>(rt, alloc, options, typed);
+    let (ending, reader, writer) = answered;
+    (ending, reader.into_inner(), writer.into_inner())
+}
+
 /// Reads the words, and answers the script if they are in order, with the workers and the squares
 /// that they choose; or says on the outputs why they are not, and leaves both devices untouched. Where
-/// the script is typed it says first on standard error what it waits for. Where the words ask for
-/// progress, or standard error is watched, a long settling shows there how far it is. It tells how
-/// that ended, gives the exit status, and hands both devices back. Failures of the devices are counted
-/// in ledgers of their own, made of the two blanks.
+/// the script is typed it says first on standard error what it waits for, and gives hints there. Where
+/// the words ask for progress, or standard error is watched, a long settling shows there how far it is.
+/// It tells how that ended, gives the exit status, and hands both devices back. Failures of the devices
+/// are counted in ledgers of their own, made of the two blanks.
 pub fn start<T, H: Print + Eprint, R, W, L: Ledger, M: Ledger>(
     rt: &T,
     outputs: &H,
@@ -208,7 +233,10 @@ where
                 reader_blank,
                 writer_blank,
             };
-            let (ending, reader, writer) = answer::<_, _, _, L, M>(rt, alloc, options, devices);
+            let hinted = if is_typed { Some(outputs) } else { None };
+            let (ending, reader, writer) = answer_hinted::<_, _, _, _, L, M>(
+                rt, hinted, alloc, options, devices,
+            );
             (tell(outputs, ending), reader, writer)
         }
         Err(fault) => (tell(outputs, report(outputs, &fault)), reader, writer),

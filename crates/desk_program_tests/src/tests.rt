@@ -135,6 +135,9 @@ fn texts_are_written_where_they_belong(rt: HostRuntime) {
     let help = OptionFault::Help(text(&rt, alloc));
     is_told(&rt, alloc, &help, false, Ending::Done, written, None);
     is_told(&rt, alloc, &help, true, unwritten, written, None);
+    let version = OptionFault::Version(text(&rt, alloc));
+    is_told(&rt, alloc, &version, false, Ending::Done, written, None);
+    is_told(&rt, alloc, &version, true, unwritten, written, None);
     let refused = OptionFault::Refused(text(&rt, alloc));
     is_told(&rt, alloc, &refused, false, Ending::Refused, None, written);
     is_told(&rt, alloc, &refused, true, Ending::Refused, None, written);
@@ -251,7 +254,29 @@ fn words_come_before_the_script(rt: HostRuntime) {
     answers(&rt, alloc, "--squares=63", b"quit\n", 2, b"");
     answers(&rt, alloc, "--progress", b"quit\n", 0, b"bye\n");
     answers(&rt, alloc, "--help", b"quit\n", 0, b"");
+    answers(&rt, alloc, "--version", b"quit\n", 0, b"");
     answers(&rt, alloc, "work", b"quit\n", 2, b"");
+}
+
+// The program's status with the word for the version, and its line on standard error.
+fn says_version(
+    rt: &(impl Abort + Threads + Wait + Clock + Eprint + Sync),
+    alloc: Global,
+    fails: bool,
+    status: u8,
+    err: Option<&str>,
+) {
+    let outputs = Outputs::new(alloc, fails);
+    let (found, _) = started(rt, &outputs, "--version", Broken, Broken);
+    same(rt, &found, &ExitCode::from(status), &fails);
+    hold(rt, &outputs, Some("desk 1.0.0 (proved)\n"), err);
+}
+
+#[test]
+fn the_version_is_one_line(rt: HostRuntime) {
+    let alloc = rt.alloc();
+    says_version(&rt, alloc, false, 0, None);
+    says_version(&rt, alloc, true, 1, Some("desk: writing failed\n"));
 }
 
 // Cells far from each other: 64 squares are too few for their step.
@@ -334,6 +359,7 @@ fn words_come_before_the_devices(rt: HostRuntime) {
     let alloc = rt.alloc();
     breaks(&rt, alloc, "work", 2);
     breaks(&rt, alloc, "-h", 0);
+    breaks(&rt, alloc, "-V", 0);
     breaks(&rt, alloc, "", 1);
 }
 
@@ -355,7 +381,7 @@ fn devices_fail(rt: HostRuntime) {
 fn who_types_is_greeted(rt: HostRuntime) {
     let alloc = rt.alloc();
     let greeted =
-        "desk: waiting for a script, whose first command is mostly `rule`; see desk --help";
+        "desk: waiting for a script; most begin with `rule`, and `help` lists the commands";
     same(&rt, &greeting(true), &Some(greeted), &"typed");
     same(&rt, &greeting(false), &None, &"from a file");
     let outputs = Outputs::new(alloc, false);
@@ -370,8 +396,141 @@ fn who_types_is_greeted(rt: HostRuntime) {
     same(&rt, &status, &ExitCode::from(0), &"typed");
     same(&rt, &written.as_slice(), &b"bye\n".as_slice(), &"typed");
     let line =
-        "desk: waiting for a script, whose first command is mostly `rule`; see desk --help\n";
+        "desk: waiting for a script; most begin with `rule`, and `help` lists the commands\n";
     hold(&rt, &outputs, None, Some(line));
     let (refused, _) = begun(&rt, &outputs, "work", true, b"".as_slice(), Vec::new(alloc));
     same(&rt, &refused, &ExitCode::from(2), &"refused");
+}
+
+const GREETING: &str =
+    "desk: waiting for a script; most begin with `rule`, and `help` lists the commands\n";
+
+// What is said behind the greeting.
+const LISTS: &str = "again desk: `help` lists the commands\n";
+
+const ENDS: &str =
+    "again desk: this line belongs to the text, which ends at a line that is just `end`\n";
+
+// The replies to a script that is typed or not, and what is said on standard error last.
+fn typed(
+    rt: &(impl Abort + Threads + Wait + Clock + Eprint + Sync),
+    alloc: Global,
+    is_typed: bool,
+    script: &[u8],
+    said: Option<&str>,
+) -> Vec<u8> {
+    let outputs = Outputs::new(alloc, false);
+    let (status, written) = begun(rt, &outputs, "", is_typed, script, Vec::new(alloc));
+    same(rt, &status, &ExitCode::from(0), &script);
+    same(rt, &outputs.err.replace(None).as_deref(), &said, &script);
+    written
+}
+
+// Something is said of a script where it is typed and nothing else, and the replies are the same.
+fn says(
+    rt: &(impl Abort + Threads + Wait + Clock + Eprint + Sync),
+    alloc: Global,
+    script: &[u8],
+    said: &str,
+) {
+    let replies = typed(rt, alloc, false, script, None);
+    let replies_to_typed = typed(rt, alloc, true, script, Some(said));
+    same(
+        rt,
+        &replies_to_typed.as_slice(),
+        &replies.as_slice(),
+        &script,
+    );
+}
+
+// Scripts of whose replies nothing is said: what is refused is no line that is no command.
+const PLAIN: &[&[u8]] = &[
+    b"show 1\nsettle\nquit\n",
+    b"help\nrule\n@RULE refused 80 BadCommand 1\nend\n",
+    b"rule\n@RULE X\n@TABLE\nrefused 80 \nn_states:2\nend\nscript\n",
+    b"rule\nend\n",
+];
+
+#[test]
+fn who_types_no_command_is_told_of_help(rt: HostRuntime) {
+    let alloc = rt.alloc();
+    for script in PLAIN {
+        says(&rt, alloc, script, GREETING);
+    }
+    says(&rt, alloc, b"paint 3\nquit\n", LISTS);
+    says(&rt, alloc, b"settle\nhelp 1\n", LISTS);
+    says(&rt, alloc, b"End\n", LISTS);
+}
+
+// Lines of texts that look like none.
+const STRAY: &[&[u8]] = &[
+    b"settle",
+    b" show 1 \r",
+    b"quit",
+    b"help",
+    b"rule",
+    b"start mc",
+    b"set 0 0 1",
+    b"on 1 mark 4 rle",
+    b"End",
+    b"END",
+    b"`end`",
+    b"end.",
+    b"edn",
+    b"ned",
+    b"nd",
+    b"emd",
+    b"eend",
+    b"ends",
+];
+
+// Lines of texts, and such as nobody takes for anything else.
+const TEXT: &[&[u8]] = &[
+    b"",
+    b"# settle",
+    b"@RULE settle",
+    b"n_states:2",
+    b"var a={0,1}",
+    b"0,a,0,1",
+    b"1 0 0 0 0",
+    b"x = 3, y = 3, rule = B3/S23",
+    b"bo$2bo$3o!",
+    b"OBO$EB!",
+    b"oo",
+    b"end of it",
+    b"the end",
+    b"settled",
+    b"show",
+];
+
+// What is said of a line of this text.
+fn says_in(
+    rt: &(impl Abort + Threads + Wait + Clock + Eprint + Sync),
+    alloc: Global,
+    opening: &str,
+    line: &[u8],
+    said: &str,
+) {
+    let mut script = Vec::new(alloc);
+    script
+        .extend_from_slice(opening.as_bytes())
+        .expect(rt, "memory");
+    script.extend_from_slice(line).expect(rt, "memory");
+    script
+        .extend_from_slice(b"\n end \r\nsettle\n")
+        .expect(rt, "memory");
+    says(rt, alloc, &script, said);
+}
+
+#[test]
+fn who_strays_in_a_text_is_told_of_its_end(rt: HostRuntime) {
+    let alloc = rt.alloc();
+    for line in STRAY {
+        says_in(&rt, alloc, "rule\n", line, ENDS);
+        says_in(&rt, alloc, "settle\n start  rle\nbo\n", line, ENDS);
+    }
+    for line in TEXT {
+        says_in(&rt, alloc, "rule\n", line, GREETING);
+        says_in(&rt, alloc, "start mc\r\n", line, GREETING);
+    }
 }

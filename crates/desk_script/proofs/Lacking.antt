@@ -10,6 +10,7 @@ is_fixed (Some command.Settle) = true
 is_fixed (Some command.Work) = true
 is_fixed (Some command.Poll) = true
 is_fixed (Some command.List) = true
+is_fixed (Some command.Help) = true
 is_fixed (Some command.Quit) = true
 is_fixed _ = false
 

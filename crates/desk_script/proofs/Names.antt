@@ -1,8 +1,8 @@
 -- The names that the proofs of this crate cite most, passed on from one place. It declares nothing.
 pub use Rattle.bookmarks.specs.declared.view.View.{View}
 pub use Rattle.desk_script.specs.Asks.{Ask, Between, InText, LinePlace, Obey, Refuse, Take, asked_at, asked_by, asks, place_behind, without_end}
-pub use Rattle.desk_script.specs.Command.{adds_branch, before, cell_of, cells_of, cells_set, change_named, change_of, changed_by, command_by, command_of, command_of_words, count_of, counted, edit_by, edit_in_branch, edit_in_named}
-pub use Rattle.desk_script.specs.Command.{format_of, format_of_words, further_edit_by, looking_by, on_of, one_count, repeated_by, repeated_of, some_cells, start_of}
+pub use Rattle.desk_script.specs.Command.{acting_of, adds_branch, before, cell_of, cells_of, cells_set, change_of, command_by, command_of, command_of_words, count_of, counted, edit_by, edit_in_branch, edit_in_named}
+pub use Rattle.desk_script.specs.Command.{format_of, format_of_words, further_edit_by, inserted, looking_by, on_of, once_by, once_of, one_count, repeated_by, repeated_of, some_cells, start_of}
 pub use Rattle.desk_script.specs.Heard.{BreaksOff, CanLackMemory, Hears, IsReadAs, LineCanLackMemory}
 pub use Rattle.desk_script.specs.Listed.{branch_line, intervention_line}
 pub use Rattle.desk_script.specs.Parts.{part_text}

@@ -4,11 +4,12 @@ use Rattle.std.specs.Option.{option_map, option_zip}
 use Rattle.std.specs.Str.{bytes_eq}
 use Rattle.script_lines.specs.Words.{words}
 use Rattle.worlds.specs.declared.cell.CellSet.{CellSet}
+use Rattle.schedule.specs.declared.acts.Acts.TheVariants.{Once, Every}
 use Rattle.schedule.specs.declared.edit.Edit.{Edit}
-use Rattle.schedule.specs.declared.edit.Edit.TheVariants.{InsertIntervention, ChangeIntervention, InsertRepeat, ChangeRepeat, RemoveIntervention, SetCells, AddBookmark, MoveBookmark, RemoveBookmark, AddBranch, RemoveBranch}
+use Rattle.schedule.specs.declared.edit.Edit.TheVariants.{Insert, Change, RemoveIntervention, SetCells, AddBookmark, MoveBookmark, RemoveBookmark, AddBranch, RemoveBranch}
 use Rattle.desk_script.specs.Numbers.{up_to, coordinate}
 use Rattle.desk_script.specs.View.{alone, view_of}
-use Rattle.desk_script.specs.declared.interventions.Repeated.{Repeated}
+use Rattle.desk_script.specs.declared.interventions.Acting.{Acting}
 use Rattle.desk_script.specs.declared.format.Format.{Format}
 use Rattle.desk_script.specs.declared.format.Format.TheVariants as format
 use Rattle.desk_script.specs.declared.command.Command.{Command}
@@ -67,42 +68,39 @@ counted named (word ∷ rest) = option_zip (count_of word) (named rest)
 abbrev pub set_of : List (List ℕ) → Option Edit
 set_of rest = option_map SetCells (some_cells (cells_of rest))
 
-abbrev pub at_of : ℕ → List (List ℕ) → Option Edit
-at_of b rest = option_map (λ r. InsertIntervention b r.0 r.1) (counted cells_set rest)
+-- an intervention that acts once: a generation, and cells
+abbrev pub once_by : ℕ × List CellSet → Acting
+once_by r = record { acts = Once r.0; cells = r.1 }
 
--- an intervention that repeats: a distance, a first and a last generation, and cells
-abbrev pub repeated_by : ℕ × (ℕ × (ℕ × List CellSet)) → Repeated
-repeated_by r = record { every = r.0; first = r.1.0; last = r.1.1.0; cells = r.1.1.1 }
+abbrev pub once_of : List (List ℕ) → Option Acting
+once_of rest = option_map once_by (counted cells_set rest)
 
-abbrev pub repeated_of : List (List ℕ) → Option Repeated
+-- one that repeats: a distance, a first and a last generation, and cells
+abbrev pub repeated_by : ℕ × (ℕ × (ℕ × List CellSet)) → Acting
+repeated_by r = record { acts = Every r.1.0 r.0 r.1.1.0; cells = r.1.1.1 }
+
+abbrev pub repeated_of : List (List ℕ) → Option Acting
 repeated_of rest = option_map repeated_by (counted (counted (counted cells_set)) rest)
 
+-- one or the other, as the first word says
+abbrev pub acting_of : List (List ℕ) → Option Acting
+acting_of [] = None
+acting_of (word ∷ rest) =
+    if bytes_eq word (codes "every") then repeated_of rest else once_of (word ∷ rest)
+
+-- it is inserted into a branch
+abbrev pub inserted : ℕ → Acting → Edit
+inserted b acting = Insert b acting.acts acting.cells
+
+abbrev pub at_of : ℕ → List (List ℕ) → Option Edit
+at_of b rest = option_map (inserted b) (once_of rest)
+
 abbrev pub every_of : ℕ → List (List ℕ) → Option Edit
-every_of b rest =
-    option_map (λ r. InsertRepeat b r.first r.every r.last r.cells) (repeated_of rest)
+every_of b rest = option_map (inserted b) (repeated_of rest)
 
--- the intervention of an id acts once, or repeats, by the words behind the id
-abbrev pub change_once_of : ℕ → List (List ℕ) → Option Edit
-change_once_of id rest =
-    option_map (λ r. ChangeIntervention id r.0 r.1) (counted cells_set rest)
-
-abbrev pub change_repeat_of : ℕ → List (List ℕ) → Option Edit
-change_repeat_of id rest =
-    option_map (λ r. ChangeRepeat id r.first r.every r.last r.cells) (repeated_of rest)
-
-abbrev pub changed_by : ℕ → List (List ℕ) → Option Edit
-changed_by id [] = None
-changed_by id (word ∷ rest) =
-    if bytes_eq word (codes "every") then change_repeat_of id rest
-    else change_once_of id (word ∷ rest)
-
-abbrev pub change_named : Option ℕ → List (List ℕ) → Option Edit
-change_named None rest = None
-change_named (Some id) rest = changed_by id rest
-
+-- it takes the place of the intervention of an id
 abbrev pub change_of : List (List ℕ) → Option Edit
-change_of [] = None
-change_of (id ∷ rest) = change_named (count_of id) rest
+change_of rest = option_map (λ r. Change r.0 r.1.acts r.1.cells) (counted acting_of rest)
 
 abbrev pub drop_of : List (List ℕ) → Option Edit
 drop_of rest = option_map RemoveIntervention (one_count rest)
@@ -166,7 +164,8 @@ looking_by word rest =
     else (if bytes_eq word (codes "poll") then alone (Some command.Poll) rest
     else (if bytes_eq word (codes "list") then alone (Some command.List) rest
     else (if bytes_eq word (codes "script") then alone (Some command.Script) rest
-    else option_map command.Edit (edit_by word rest))))
+    else (if bytes_eq word (codes "help") then alone (Some command.Help) rest
+    else option_map command.Edit (edit_by word rest)))))
 
 -- the command of a first word and those behind it
 abbrev pub command_by : List ℕ → List (List ℕ) → Option Command

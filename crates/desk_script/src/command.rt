@@ -1,5 +1,5 @@
 //! Commands that no text follows.
-ghost use Rattle.std.specs.Prelude.{◌≡◌, IfOk, OnErr};
+ghost use Rattle.std.specs.Prelude.{◌≡◌, ◌⊎◌, IfOk, IsSome, OnErr, false, true};
 ghost use Rattle.std.specs.Option.{option_map};
 ghost use Rattle.script_lines.specs.Words.{words};
 ghost use Rattle.desk_script.specs.Command.{command_of, command_by, edit_by, looking_by, one_count};
@@ -30,6 +30,8 @@ pub enum Command {
     List,
     /// The document is to be written as a script that makes it anew.
     Script,
+    /// The commands of a script are to be listed.
+    Help,
     /// The script ends.
     Quit,
 }
@@ -43,6 +45,18 @@ pub(crate) fn read_command(alloc: Global, line: &[u8]) -> Result<Option<Command>
         return Ok(None);
     };
     read_by(alloc, word, rest)
+}
+
+/// Whether the line is a command that no text follows. It says no where memory runs out for that command.
+pub fn is_command(alloc: Global, line: &[u8]) -> bool
+    ensures yes { result ≡ true → IsSome (command_of line.now) }
+    ensures no { result ≡ false
+        → (command_of line.now ≡ None) ⊎ LineCanLackMemory (command_of line.now) }
+{
+    match read_command(alloc, line) {
+        Ok(command) => command.is_some(),
+        Err(_) => false,
+    }
 }
 
 // The command of a first word and those behind it.
@@ -83,6 +97,8 @@ fn read_looking(alloc: Global, word: &[u8], rest: &[u8]) -> Result<Option<Comman
         Ok(alone(Command::List, rest))
     } else if word == b"script".as_slice() {
         Ok(alone(Command::Script, rest))
+    } else if word == b"help".as_slice() {
+        Ok(alone(Command::Help, rest))
     } else {
         read_edit_command(alloc, word, rest)
     }

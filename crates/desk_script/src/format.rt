@@ -1,5 +1,5 @@
 //! The formats of the texts that follow commands.
-ghost use Rattle.std.specs.Prelude.{◌≡◌};
+ghost use Rattle.std.specs.Prelude.{◌≡◌, is_some};
 ghost use Rattle.script_lines.specs.Words.{words};
 ghost use Rattle.desk_script.specs.Command.{format_of, start_of};
 
@@ -29,6 +29,13 @@ pub(crate) fn read_format(line: &[u8]) -> Option<Format>
     } else {
         None
     }
+}
+
+/// Whether a text follows the line.
+pub fn opens_text(line: &[u8]) -> bool
+    ensures { result ≡ is_some (format_of line.now) }
+{
+    read_format(line).is_some()
 }
 
 // The format of a start.

@@ -1,22 +1,20 @@
 //! Commands that are edits of interventions.
 ghost use Rattle.std.specs.Prelude.{◌≡◌, IfOk};
 ghost use Rattle.script_lines.specs.Words.{words};
-ghost use Rattle.desk_script.specs.Command.{at_of, change_of, change_once_of, change_repeat_of};
-ghost use Rattle.desk_script.specs.Command.{changed_by, drop_of, every_of, repeated_of};
+ghost use Rattle.std.specs.Option.{option_map};
+ghost use Rattle.desk_script.specs.Command.{acting_of, at_of, change_of, drop_of, every_of};
+ghost use Rattle.desk_script.specs.Command.{inserted, once_of, repeated_of};
 
 use crate::cells::read_cells_set;
 use crate::words::{count, one_count};
-use schedule::{CellSet, Edit, Listing};
+use schedule::{Acts, CellSet, Edit, Listing};
 use script_lines::next_word;
 use std::alloc::{AllocError, Global};
 
-// What words say of an intervention that repeats: it sets these cells at `first` and each
-// generation that is `every` after one at which it does, up to `last`.
+// What words say of an intervention: when it acts, and the cells that it sets.
 #[derive(Drop)]
-struct Repeated {
-    every: u64,
-    first: u64,
-    last: u64,
+struct Acting {
+    acts: Acts,
     cells: Listing<CellSet>,
 }
 
@@ -24,20 +22,7 @@ struct Repeated {
 pub(crate) fn read_at(alloc: Global, branch: u64, rest: &[u8]) -> Result<Option<Edit>, AllocError>
     ensures { IfOk result (λ edit. edit ≡ at_of branch (words rest.now)) }
 {
-    let Some((generation, rest)) = next_word(rest) else {
-        return Ok(None);
-    };
-    let Some(generation) = count(generation) else {
-        return Ok(None);
-    };
-    match read_cells_set(alloc, rest)? {
-        Some(cells) => Ok(Some(Edit::InsertIntervention {
-            branch,
-            generation,
-            cells,
-        })),
-        None => Ok(None),
-    }
+    Ok(inserted(branch, read_once(alloc, rest)?))
 }
 
 /// One that repeats is inserted into a branch.
@@ -48,16 +33,19 @@ pub(crate) fn read_every(
 ) -> Result<Option<Edit>, AllocError>
     ensures { IfOk result (λ edit. edit ≡ every_of branch (words rest.now)) }
 {
-    match read_repeated(alloc, rest)? {
-        Some(repeated) => Ok(Some(Edit::InsertRepeat {
-            branch,
-            first: repeated.first,
-            every: repeated.every,
-            last: repeated.last,
-            cells: repeated.cells,
-        })),
-        None => Ok(None),
-    }
+    Ok(inserted(branch, read_repeated(alloc, rest)?))
+}
+
+// The edit that inserts what words say into a branch, if they say it.
+fn inserted(branch: u64, acting: Option<Acting>) -> Option<Edit>
+    ensures { result ≡ option_map (inserted branch) acting }
+{
+    let Acting { acts, cells } = acting?;
+    Some(Edit::Insert {
+        branch,
+        acts,
+        cells,
+    })
 }
 
 /// An intervention is changed.
@@ -67,27 +55,28 @@ pub(crate) fn read_change(alloc: Global, rest: &[u8]) -> Result<Option<Edit>, Al
     let Some((id, rest)) = next_word(rest) else {
         return Ok(None);
     };
-    match count(id) {
-        Some(id) => read_changed(alloc, id, rest),
+    let Some(id) = count(id) else {
+        return Ok(None);
+    };
+    match read_acting(alloc, rest)? {
+        Some(Acting { acts, cells }) => Ok(Some(Edit::Change { id, acts, cells })),
         None => Ok(None),
     }
 }
 
-// The intervention of an id acts once or repeats, as the first word says.
-fn read_changed(alloc: Global, id: u64, rest: &[u8]) -> Result<Option<Edit>, AllocError>
-    ensures { IfOk result (λ edit. edit ≡ changed_by id (words rest.now)) }
+// It acts once or repeats, as the first word says.
+fn read_acting(alloc: Global, rest: &[u8]) -> Result<Option<Acting>, AllocError>
+    ensures { IfOk result (λ acting. acting ≡ acting_of (words rest.now)) }
 {
     match next_word(rest) {
-        Some((word, behind)) if word == b"every".as_slice() => {
-            read_change_repeat(alloc, id, behind)
-        }
-        _ => read_change_once(alloc, id, rest),
+        Some((word, behind)) if word == b"every".as_slice() => read_repeated(alloc, behind),
+        _ => read_once(alloc, rest),
     }
 }
 
-// It acts once.
-fn read_change_once(alloc: Global, id: u64, rest: &[u8]) -> Result<Option<Edit>, AllocError>
-    ensures { IfOk result (λ edit. edit ≡ change_once_of id (words rest.now)) }
+// It acts once: a generation, and cells.
+fn read_once(alloc: Global, rest: &[u8]) -> Result<Option<Acting>, AllocError>
+    ensures { IfOk result (λ acting. acting ≡ once_of (words rest.now)) }
 {
     let Some((generation, rest)) = next_word(rest) else {
         return Ok(None);
@@ -96,34 +85,17 @@ fn read_change_once(alloc: Global, id: u64, rest: &[u8]) -> Result<Option<Edit>,
         return Ok(None);
     };
     match read_cells_set(alloc, rest)? {
-        Some(cells) => Ok(Some(Edit::ChangeIntervention {
-            id,
-            generation,
+        Some(cells) => Ok(Some(Acting {
+            acts: Acts::once(generation),
             cells,
         })),
         None => Ok(None),
     }
 }
 
-// It repeats.
-fn read_change_repeat(alloc: Global, id: u64, rest: &[u8]) -> Result<Option<Edit>, AllocError>
-    ensures { IfOk result (λ edit. edit ≡ change_repeat_of id (words rest.now)) }
-{
-    match read_repeated(alloc, rest)? {
-        Some(repeated) => Ok(Some(Edit::ChangeRepeat {
-            id,
-            first: repeated.first,
-            every: repeated.every,
-            last: repeated.last,
-            cells: repeated.cells,
-        })),
-        None => Ok(None),
-    }
-}
-
-// An intervention that repeats, as words say: a distance, a first and a last generation, and cells.
-fn read_repeated(alloc: Global, rest: &[u8]) -> Result<Option<Repeated>, AllocError>
-    ensures { IfOk result (λ repeated. repeated ≡ repeated_of (words rest.now)) }
+// It repeats: a distance, a first and a last generation, and cells.
+fn read_repeated(alloc: Global, rest: &[u8]) -> Result<Option<Acting>, AllocError>
+    ensures { IfOk result (λ acting. acting ≡ repeated_of (words rest.now)) }
 {
     let Some((every, rest)) = next_word(rest) else {
         return Ok(None);
@@ -138,10 +110,8 @@ fn read_repeated(alloc: Global, rest: &[u8]) -> Result<Option<Repeated>, AllocEr
         return Ok(None);
     };
     match read_cells_set(alloc, rest)? {
-        Some(cells) => Ok(Some(Repeated {
-            every,
-            first,
-            last,
+        Some(cells) => Ok(Some(Acting {
+            acts: Acts::every(first, every, last),
             cells,
         })),
         None => Ok(None),

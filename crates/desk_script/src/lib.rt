@@ -8,6 +8,8 @@
 //! for this edit. `tell_branches`, `tell_interventions` and `tell_bookmark` write the lines that list what
 //! a document has.
 //!
+//! `opens_text` and `is_command` say what a single line would ask between texts.
+//!
 //! It has no desk, and answers nothing. A line is kept only as far as its command needs; all is in
 //! proportion to what is read and written.
 #![tactic(auto)]
@@ -28,9 +30,9 @@ mod scripting;
 mod view;
 mod words;
 
-pub use command::Command;
+pub use command::{Command, is_command};
 pub use fault::ScriptFault;
-pub use format::Format;
+pub use format::{Format, opens_text};
 pub use heard::{Heard, listen};
 pub use laws::edit_lines_read_back;
 pub use listed::{tell_bookmark, tell_branches, tell_interventions};

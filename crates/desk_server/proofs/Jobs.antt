@@ -1,9 +1,11 @@
 -- What is out after jobs were dropped.
-use Rattle.desk_server.proofs.Names.{Asked, BookState, CarriesOn, Cause, DropsJobs, IfNone, IfSome, IsDoneWith, IsFirstOut, IsFresh, IsSome, JobResult, KeepsCauses, List, None, NothingOut, Option, PostMatchesDesk, PostView, SameBook, Some}
+use Rattle.desk_server.proofs.Names.{Asked, BookState, CarriesOn, Cause, DropsJobs, IfNone, IfSome, IsDoneWith, IsFirstOut, IsFresh, IsSome, JobResult, KeepsCauses, Learned, List, None, NothingOut, Option, PostMatchesDesk, PostView, SameBook, Some}
 use Rattle.desk_server.proofs.Names.{ap, arith, cancelled, expected, false, has_number, job_of, length, nat_tests, opened, pending_of, refl, row_of, state_map, subst, sym, true, ℕ, ◌-◌, ◌<◌, ◌==◌, ◌^◌, ◌≡◌, ◌≢◌, ◌≤◌}
 use Rattle.revision_jobs.specs.declared.entries.Entries.{Entries}
 use Rattle.revision_jobs.specs.declared.answer.Job.{Job}
+use Rattle.revision_jobs.specs.Value.{Value}
 use Rattle.dependency_book.specs.declared.row.RowState.{RowState}
+use Rattle.dependency_book.specs.declared.row.RowState.TheVariants.{Known}
 use Rattle.desk_events.specs.declared.need.Need.{Need}
 use Rattle.desk_events.specs.declared.need.Need.TheVariants.{Step, View}
 use Rattle.dependency_book.specs.Kept.{KeepsRows}
@@ -11,7 +13,8 @@ use Rattle.desk_events.specs.declared.mark.Mark.{Mark}
 use Rattle.dependency_book.specs.Recalled.{Revises}
 use Rattle.desk_core.proofs.Shared.Recalled.{recalls_out}
 use Rattle.desk_events.specs.Marks.{mark_at}
-use Rattle.desk_core.specs.Settling.{Explains, HoldsJobsOut, IsWhy, SawStop, ServesOn}
+use Rattle.desk_core.specs.Settling.{Explains, HoldsJobsOut, IsWhy, KeepsKnown, SawStop, ServesOn}
+use Rattle.dependency_book.specs.Right.{IsRightBook}
 use Rattle.desk_core.proofs.Shared.Given.{same_given}
 
 -- where nothing is dropped
@@ -31,6 +34,11 @@ cancelled_out n old new rows need job e = grind (arith)
 pub cancel_drops : (n : ℕ) (old new : BookState) → ((need : Need) → row_of new need ≡ cancelled n (row_of old need))
     → SameBook old new → DropsJobs old new
 cancel_drops n old new rows same = grind (arith, cancelled_out, same_given)
+
+-- what is known isn't out
+pub known_stays : (n : ℕ) (value : Value) (old new : RowState Value) → new ≡ cancelled n old → old ≡ Known value
+    → new ≡ Known value
+known_stays n value old new is known = grind (arith)
 
 -- the first number that is out rises
 its_number : (n : ℕ) (o : Option Job) → has_number n o ≡ true → (job : Job) × (o ≡ Some job)
@@ -106,6 +114,12 @@ none_untold cause fact some = grind (arith)
 pub carries_served : (first last : PostView) (old new : BookState) → PostMatchesDesk first old → ServesOn first last old new
     → CarriesOn first last new
 carries_served first last old new c s = grind (arith)
+
+-- what was learned is known still where jobs are given up behind it
+pub learned_then : (old mid new : BookState) → KeepsKnown old mid → IsRightBook mid → KeepsKnown mid new
+    → (IsRightBook mid → IsRightBook new) → Learned old new
+learned_then old mid new first right later keeps =
+    record { known = λ need value is. later need value (first need value is); right = keeps right }
 
 -- what a desk is left with that gave jobs up after a post carried on
 pub carries_on : (first last : PostView) (mid new : BookState) → DropsJobs mid new → CarriesOn first last mid

@@ -4,5 +4,6 @@ pub mod Replies
 pub mod Rounds
 pub mod Noted
 pub mod Known
+pub mod Left
 pub mod Lines
 pub mod Names

@@ -1,6 +1,8 @@
 -- What is noted of one part of a run after the other.
 use Rattle.desk_server.proofs.Names.{After, Answered, Ask, AsksForAnswers, BookState, Command, Draws, Format, HasToCompute, IsReadAs, IsRefused, JobResult, List, Moment, NotesEach, Obey, PostView, PublishedOrCounted, Reply, Request}
-use Rattle.desk_server.proofs.Names.{ScriptFault, TellsPending, Text, WatchesNext, WatchesReply, [], append-nil, arith, ends, false, moment, refl, reply_text, subst, sym, true, ℕ, ◌++◌, ◌∙◌, ◌∷◌, ◌≡◌}
+use Rattle.desk_server.proofs.Names.{AnswersAtDesks, AnswersAtEach, Bool, IsLeftBy, ScriptFault, TellsPending, Text, WatchesNext, WatchesReply, [], ap, append-nil, arith, but_bye, cond, ends, false, moment, opening, refl}
+use Rattle.desk_server.proofs.Names.{reply_text, subst, sym, true, ℕ, ◌++◌, ◌∙◌, ◌∷◌, ◌≡◌}
+use Rattle.dependency_book.specs.Right.{IsRightBook}
 use Rattle.desk_core.specs.Looks.{LooksOn}
 use Rattle.desk_script.specs.declared.request.Request.TheVariants as request
 
@@ -16,6 +18,24 @@ draws_none ask d p q same = record { later = []; gave = same ∙ sym (append-nil
 pub draws_more : (ask : Ask) (d : BookState) (p q : PostView) (later : List JobResult) → AsksForAnswers ask d
     → q.answers ≡ p.answers ++ later → Draws ask d p q
 draws_more ask d p q later takes gave = grind (arith)
+
+at_each_then : (a b c : BookState) (xs ys : List Answered) → AnswersAtEach a b xs → AnswersAtEach b c ys
+    → AnswersAtEach a c (xs ++ ys)
+at_each_then a b c [] ys f g = subst (λ d. AnswersAtEach d c ys) f g
+at_each_then a b c (x ∷ xs) ys f g = (f.0, f.1, at_each_then f.0 b c xs ys f.2 g)
+
+-- the answer with this reply alone, or none where that ends the script
+pub at_one : (a b : BookState) (ask : Ask) (r : Reply) → TellsPending r b → IsLeftBy ask a b
+    → (last : BookState) × AnswersAtEach a last (but_bye ((ask, after_of b r) ∷ []))
+at_one a b ask r pending left = by (ends r) refl
+  where
+    by : (v : Bool) → ends r ≡ v → (last : BookState) × AnswersAtEach a last (but_bye ((ask, after_of b r) ∷ []))
+    by true e = (a, subst (λ v. AnswersAtEach a a (cond v [] ((ask, after_of b r) ∷ []) ++ [])) (sym e) refl)
+    by false e = (
+      b,
+      subst (λ v. AnswersAtEach a b (cond v [] ((ask, after_of b r) ∷ []) ++ [])) (sym e)
+          (b, record { reply = r; gives = refl; pending = pending; left = left }, refl),
+    )
 
 module _ {V : Type 0} (notes : V → BookState → V → Type 0) where
   pub notes_join : (a b c : Moment V) (xs ys : List Answered) → NotesEach notes a b xs → NotesEach notes b c ys
@@ -66,10 +86,36 @@ module _ {V : Type 0} (notes : V → BookState → V → Type 0) where
   unwatched_next a later = grind (arith)
 
   pub notes_one : (a b : Moment V) (w : V) (ask : Ask) (r : Reply)
-      → WatchesReply notes ask r a.post b.post a.desk b.desk a.seen w → TellsPending r b.desk
+      → WatchesReply notes ask r a.post b.post a.desk b.desk a.seen w → TellsPending r b.desk → IsLeftBy ask a.desk b.desk
       → PublishedOrCounted notes a.missed b.missed w b.desk b.seen → NotesEach notes a b ((ask, after_of b.desk r) ∷ [])
-  notes_one a b w ask r before pending noted = (
+  notes_one a b w ask r before pending left noted = (
     b,
-    record { reply = r; gives = refl; pending = pending; watched = w; before = before; noted = noted },
+    record { reply = r; gives = refl; pending = pending; left = left; watched = w; before = before; noted = noted },
     refl,
   )
+
+  -- whatever was noted, the answers were given at the desks that their commands left
+  at_each : (a b : Moment V) (xs : List Answered) → NotesEach notes a b xs → AnswersAtEach a.desk b.desk xs
+  at_each a b [] same = ap (λ (m : Moment V). m.desk) same
+  at_each a b (x ∷ xs) noted =
+      let one = noted.1 in (
+        noted.0.desk,
+        record { reply = one.reply; gives = one.gives; pending = one.pending; left = one.left },
+        at_each noted.0 b xs noted.2,
+      )
+
+  pub at_desks : (a b : Moment V) → a.desk.plan ≡ opening 0 → IsRightBook a.desk → (xs : List Answered)
+      → NotesEach notes a b xs → AnswersAtDesks xs
+  at_desks a b opens right xs noted =
+      record { first = a.desk; opens = opens; right = right; last = b.desk; each = at_each a b xs noted }
+
+  -- and so was one more, which wasn't noted
+  pub at_desks_then : (a b : Moment V) (k : BookState) → a.desk.plan ≡ opening 0 → IsRightBook a.desk
+      → (ps qs : List Answered) → NotesEach notes a b ps → AnswersAtEach b.desk k qs → AnswersAtDesks (ps ++ qs)
+  at_desks_then a b k opens right ps qs noted then = record {
+    first = a.desk;
+    opens = opens;
+    right = right;
+    last = k;
+    each = at_each_then a.desk b.desk k ps qs (at_each a b ps noted) then;
+  }

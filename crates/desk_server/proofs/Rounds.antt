@@ -1,7 +1,7 @@
 -- One command after another.
-use Rattle.desk_server.proofs.Names.{After, AllCausedOver, Answered, Answers, AnswersAll, AnswersFront, AnswersRequest, AnswersWhole, Appends, AppendsFront, Ask, AsksIfAny, Between, BookState, Bool, BreaksOff, Completes, Consumes, Finishes}
+use Rattle.desk_server.proofs.Names.{After, AllCausedOver, Answered, Answers, AnswersAll, AnswersAtDesks, AnswersFront, AnswersRequest, AnswersWhole, Appends, AppendsFront, Ask, AsksIfAny, Between, BookState, Bool, BreaksOff, Completes, Consumes, Finishes}
 use Rattle.desk_server.proofs.Names.{GivesAnswer, Hears, IfSome, IsAtEnd, IsCaused, KeepsText, List, Moment, None, NotesEach, NotesFront, NotesReplies, NotesScript, Option, PostView, Reply, Request, Served, Session, Shortage, Some}
-use Rattle.desk_server.proofs.Names.{StopsTelling, WatchesNext, WatchesReply, Works, [], afters, answer, answered, answered_with, ap, append-nil, append_assoc, arith, asks, but_bye, cond, ends, false, first_shortage, front_first}
+use Rattle.desk_server.proofs.Names.{StopsTelling, WatchesNext, WatchesReply, Works, [], afters, answer, answered, answered_by, answered_with, ap, append-nil, append_assoc, arith, asks, but_bye, cond, ends, false, first_shortage}
 use Rattle.desk_server.proofs.Names.{front_then, inr, later_shortages, moment, opening, opening_session, refl, replies_to, replies_with, reply_text, rule_text_after, session, session_after, subst, sym, texts_of, told_to, true, unless_bye}
 use Rattle.desk_server.proofs.Names.{zip, ℕ, ◌++◌, ◌∙◌, ◌∷◌, ◌≡◌, ◌≢◌}
 use Rattle.basics.proofs.Shared.Lists.{all_append}
@@ -14,7 +14,8 @@ use Rattle.text_lines.specs.Lines.{End, Ended, Broken, lines_until}
 use Rattle.script_lines.specs.Script.{MayFollow}
 use Rattle.desk_script.proofs.Shared.Asks.{follows-any}
 use Rattle.desk_server.specs.declared.reply.Reply.TheVariants as reply
-use Rattle.desk_server.proofs.Noted.{after_of, unwatched_next}
+use Rattle.dependency_book.specs.Right.{IsRightBook}
+use Rattle.desk_server.proofs.Noted.{after_of, at_desks, unwatched_next}
 
 -- no failure was counted, and then none
 pub works_then : {R W : Type 0} (r s t : LineReading R) (w x y : CountedWriting W) → Works r s w x → Works s t x y
@@ -172,17 +173,21 @@ module _ (prompt : Bool) (old new : Ahead) (heard : Option Request) (last : Bool
   done_bye noted before after notes b w = done_told noted before after (grind (arith)) w
       (λ rest _. ap (λ v. one_of s.0 k r ∷ cond (ends v) [] (behind Ended rest [])) b)
 
-  pub stops_telling : (before after : Option (List ℕ)) → AppendsFront before after (reply_text k r)
-      → StopsTelling prompt old new before after j n
-  stops_telling before after w = record {
+  pub stops_telling : (noted : List Answered → Type 0) (before after : Option (List ℕ))
+      → noted (but_bye (one_of s.0 k r ∷ [])) → AppendsFront before after (reply_text k r)
+      → StopsTelling noted prompt old new before after j n
+  stops_telling noted before after notes w = record {
     bytes = h.bytes;
     shortages = s.2.0 ∷ [];
     caused = λ e. (s.2.1 e, tt);
     taken = h.taken;
-    law = λ rest x. subst (AppendsFront before after)
-        (sym (replies_told j (asks Ended Between n (lines_until Ended (h.bytes ++ rest))) (s.2.0 ∷ [])
-        ∙ ap told_to (afters_from Ended rest [] (follows_nothing last new.bytes rest h.at_end x))))
-        (front_first before after (reply_text k r) (told_to (cond (ends r) [] (behind Ended rest []))) w);
+    given = one_of s.0 k r ∷ [];
+    wrote = subst (AppendsFront before after) (sym (append-nil (reply_text k r))) w;
+    notes = notes;
+    law = λ rest x. (
+      cond (ends r) [] (behind Ended rest []),
+      afters_from Ended rest [] (follows_nothing last new.bytes rest h.at_end x),
+    );
   }
 
 notes_both : (first next both : List Answered → Type 0) → ((ps qs : List Answered) → first ps → next qs → both (ps ++ qs))
@@ -227,34 +232,40 @@ module _ (first : List Answered → Type 0) (prompt : Bool) (a b c : Ahead) (x y
     law = λ rest e. end_on g.bytes g.shortages Ended rest ∙ ap (λ v. f.given ++ v) (g.law rest e);
   }
 
-  pub answers_stops : StopsTelling prompt b c y z q m → StopsTelling prompt a c x z p n
-  answers_stops g = record {
+  pub answers_stops : (next both : List Answered → Type 0)
+      → ((ps qs : List Answered) → first ps → next qs → both (ps ++ qs))
+      → StopsTelling next prompt b c y z q m → StopsTelling both prompt a c x z p n
+  answers_stops next both join g = record {
     bytes = f.bytes ++ g.bytes;
     shortages = f.shortages ++ g.shortages;
     caused = λ e. all_append IsCaused f.shortages g.shortages (f.caused e) (g.caused e);
     taken = takes_then a b c f.bytes g.bytes f.taken g.taken;
-    law = λ rest e.
-        let all = asks Ended Between m (lines_until Ended (g.bytes ++ rest)) in
-        subst (AppendsFront x z)
-        (sym (replies_told p (asks Ended Between n (lines_until Ended ((f.bytes ++ g.bytes) ++ rest)))
-        (f.shortages ++ g.shortages) ∙ ap told_to (end_on g.bytes g.shortages Ended rest)
-        ∙ texts-append f.given (answered q all g.shortages)
-        ∙ ap (λ v. told_to f.given ++ v) (sym (replies_told q all g.shortages))))
-        (front_then x y z (told_to f.given) (replies_to q all g.shortages) f.wrote (g.law rest e));
+    given = f.given ++ g.given;
+    wrote = subst (AppendsFront x z) (sym (texts-append f.given g.given))
+        (front_then x y z (told_to f.given) (told_to g.given) f.wrote g.wrote);
+    notes = notes_both first next both join f.given g.given f.notes g.notes;
+    law = λ rest e. (
+      (g.law rest e).0,
+      end_on g.bytes g.shortages Ended rest ∙ ap (λ v. f.given ++ v) (g.law rest e).1
+          ∙ sym (append_assoc f.given g.given (g.law rest e).0),
+    );
   }
 
 pub answers_breaks : (noted : List Answered → Type 0) (prompt : Bool) (a b c : Ahead) (x y : Option (List ℕ)) (q : Session)
-    (m : ℕ) → Answers noted prompt a b x y opening_session q 1 m → BreaksOff b c Between m → AnswersWhole prompt a c x y
-answers_breaks noted prompt a b c x y q m f g = record {
-  read = f.bytes ++ g.bytes;
-  shortages = f.shortages ++ [];
-  caused = λ e. all_append IsCaused f.shortages [] (f.caused e) tt;
-  taken = takes_then a b c f.bytes g.bytes f.taken g.taken;
-  wrote = subst (Appends x y) (sym (replies_told opening_session
-      (asks Broken Between 1 (lines_until Broken (f.bytes ++ g.bytes))) (f.shortages ++ [])
-      ∙ ap told_to (f.law Broken g.bytes [] ∙ ap (λ v. f.given ++ answered q v []) g.law
-      ∙ append-nil f.given))) f.wrote;
-}
+    (m : ℕ) → ((xs : List Answered) → noted xs → AnswersAtDesks xs) → Answers noted prompt a b x y opening_session q 1 m
+    → BreaksOff b c Between m → AnswersWhole prompt a c x y
+answers_breaks noted prompt a b c x y q m at f g =
+    let given : answered_by Broken (f.bytes ++ g.bytes) (f.shortages ++ []) ≡ f.given =
+    f.law Broken g.bytes [] ∙ ap (λ v. f.given ++ answered q v []) g.law ∙ append-nil f.given in
+    record {
+      read = f.bytes ++ g.bytes;
+      shortages = f.shortages ++ [];
+      caused = λ e. all_append IsCaused f.shortages [] (f.caused e) tt;
+      taken = takes_then a b c f.bytes g.bytes f.taken g.taken;
+      wrote = subst (Appends x y) (sym (replies_told opening_session
+          (asks Broken Between 1 (lines_until Broken (f.bytes ++ g.bytes))) (f.shortages ++ []) ∙ ap told_to given)) f.wrote;
+      desks = subst (λ v. AnswersAtDesks (but_bye v)) (sym given) (at (but_bye f.given) f.notes);
+    }
 
 -- at the beginning
 pub answers_none : (noted : List Answered → Type 0) (prompt : Bool) (a b : Ahead) (x : Option (List ℕ)) (p q : Session) (n : ℕ)
@@ -288,10 +299,11 @@ if_read P (Some script) (Some rest) bytes taken law = subst P (sym taken) (law r
 -- at the end its run completes, and what was noted of it is known
 pub completed : {R W V : Type 0} (notes : V → BookState → V → Type 0) (missed : ℕ) (p q : PostView)
     (first last : BookState) (old new : V) (r s : LineReading R) (w x : CountedWriting W) → first.plan ≡ opening 0
+    → IsRightBook first
     → Finishes (NotesEach notes (moment 0 p first old) (moment missed q last new)) p.is_prompt r.ahead s.ahead w.contents
     x.contents opening_session 1
     → Works r s w x → Completes p.is_prompt r s w x × NotesReplies notes missed p q r w x old new
-completed notes missed p q first last old new r s w x opens f works =
+completed notes missed p q first last old new r s w x opens right f works =
     let wrote = λ (rest : List ℕ) (e : s.ahead.bytes ≡ Some rest).
     told_script w.contents x.contents (f.bytes ++ rest) f.shortages
     (subst (λ v. Appends w.contents x.contents (told_to v)) (sym (f.law rest e)) f.wrote) in (
@@ -301,6 +313,8 @@ completed notes missed p q first last old new r s w x opens f works =
               shortages = f.shortages;
               caused = f.caused;
               wrote = wrote rest e;
+              desks = subst (λ v. AnswersAtDesks (but_bye v)) (sym (f.law rest e))
+                  (at_desks notes (moment 0 p first old) (moment missed q last new) opens right (but_bye f.given) f.notes);
             });
         works = works;
       },
@@ -317,10 +331,19 @@ completed notes missed p q first last old new r s w x opens f works =
           }),
     )
 
-pub stops_front : (prompt : Bool) (a c : Ahead) (x z : Option (List ℕ)) → StopsTelling prompt a c x z opening_session 1
-    → IfSome a.bytes (AnswersFront prompt x z)
+pub stops_front : (prompt : Bool) (a c : Ahead) (x z : Option (List ℕ))
+    → StopsTelling AnswersAtDesks prompt a c x z opening_session 1 → IfSome a.bytes (AnswersFront prompt x z)
 stops_front prompt a c x z f = if_read (AnswersFront prompt x z) a.bytes c.bytes f.bytes f.taken.consumed
-    (λ rest e. record { shortages = f.shortages; caused = f.caused; wrote = f.law rest e })
+    (λ rest e.
+    let so = f.law rest e in record {
+      shortages = f.shortages;
+      caused = f.caused;
+      given = f.given;
+      later = so.0;
+      front = so.1;
+      wrote = f.wrote;
+      desks = f.notes;
+    })
 
 -- where it stops before the end
 front_noted : {V : Type 0} (notes : V → BookState → V → Type 0) (p q : PostView) (first : BookState) (old new : V)

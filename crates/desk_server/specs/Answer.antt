@@ -22,8 +22,8 @@ use Rattle.desk_script.specs.Asks.{Ask, Obey, Take, Refuse}
 use Rattle.desk_script.specs.Scripted.{script_text}
 use Rattle.desk_server.specs.Faults.{Fault, of_rule, of_pattern, of_macrocell, of_edit, of_script}
 use Rattle.desk_script.specs.Listed.{listed_text}
-use Rattle.desk_server.specs.Reply.{scripted_text, accepted_text, settled_text, working_text, unsettled_text, polled_text, current_text, pending_text, refused_text, bye_text}
-use Rattle.desk_server.specs.Shortage.{Shortage, Memory, Unsettled, Pending, Still, Known}
+use Rattle.desk_server.specs.Reply.{scripted_text, accepted_text, settled_text, working_text, unsettled_text, polled_text, current_text, pending_text, refused_text, help_text, bye_text}
+use Rattle.desk_server.specs.Shortage.{Shortage, Unread, Memory, Unsettled, Pending, Still, Known}
 
 -- what a script's commands are answered by: the document, and the text of the rule that was taken
 -- last, if one was
@@ -51,7 +51,12 @@ refused p fault = only p (refused_text fault)
 abbrev pub no_memory : Plan → After
 no_memory p = refused p (of_edit NoMemory)
 
--- a command that does nothing where it is out of memory
+-- what isn't read is out of memory, whatever it says
+abbrev pub unless_unread : Shortage → Plan → After → After
+unless_unread Unread p after = no_memory p
+unless_unread _ p after = after
+
+-- what can be done isn't where memory is short for it
 abbrev pub unless_memory : Shortage → Plan → After → After
 unless_memory Memory p after = no_memory p
 unless_memory _ p after = after
@@ -73,27 +78,32 @@ id_word (AddBookmark b generation view) = codes " bookmark "
 id_word (AddBranch parent generation) = codes " branch "
 id_word _ = []
 
--- an edit was made or refused
-abbrev pub edited : Plan → Asked → After
-edited p asked =
-    unless_fault p of_edit (λ (c : Changed). accepted c (id_word asked) c.edited.id)
+-- an edit was made, or refused for its fault; where it has none, memory may be short for it
+abbrev pub edited_as : Shortage → Plan → Asked → List ℕ → (Changed → Option ℕ) → After
+edited_as short p asked word number =
+    unless_fault p of_edit (λ (c : Changed). unless_memory short p (accepted c word (number c)))
     (change p asked)
 
+-- so it was, and told with the id that it gives, if it gives one
+abbrev pub edited : Shortage → Plan → Asked → After
+edited short p asked =
+    edited_as short p asked (id_word asked) (λ (c : Changed). c.edited.id)
+
 -- a start was taken or refused, whose file names this generation
-abbrev pub started : Plan → ℕ → World → After
-started p generation start =
-    unless_fault p of_edit (λ (c : Changed). accepted c (codes " gen ") (Some generation))
-    (change p (ReplaceStart start))
+abbrev pub started : Shortage → Plan → ℕ → World → After
+started short p generation start =
+    edited_as short p (ReplaceStart start) (codes " gen ") (λ _. Some generation)
 
 -- what a text of a format means was taken or refused
-abbrev pub taken : Plan → Format → List ℕ → After
-taken p format.Rule text =
-    unless_fault p of_rule (λ (rule : FileRule). edited p (ReplaceRule rule)) (rule_of text)
-taken p format.Rle text =
-    unless_fault p of_pattern (λ (loaded : Loaded). started p loaded.generation loaded.plane)
+abbrev pub taken : Shortage → Plan → Format → List ℕ → After
+taken short p format.Rule text =
+    unless_fault p of_rule (λ (rule : FileRule). edited short p (ReplaceRule rule)) (rule_of text)
+taken short p format.Rle text =
+    unless_fault p of_pattern (λ (loaded : Loaded). started short p loaded.generation loaded.plane)
     (pattern_of text)
-taken p format.Macrocell text =
-    unless_fault p of_macrocell (λ (loaded : Loaded). started p loaded.generation loaded.plane)
+taken short p format.Macrocell text =
+    unless_fault p of_macrocell
+    (λ (loaded : Loaded). started short p loaded.generation loaded.plane)
     (macrocells.pattern_of text)
 
 -- all texts were computed, or a shortage leaves some bookmarks pending
@@ -106,13 +116,12 @@ settled _ p = only p settled_text
 -- a bookmark of the document is shown with the text that starting over gives, unless a shortage
 -- left it pending
 abbrev pub there : Shortage → Plan → ℕ → Bookmark → After
-there Memory p id b = no_memory p
 there Pending p id b = only p (pending_text id)
 there _ p id b = only p (current_text id (scratch p b))
 
 -- a bookmark is shown, if there is one
 abbrev pub shown : Shortage → Plan → ℕ → Option Bookmark → After
-shown short p id None = unless_memory short p (refused p (of_edit NoSuchBookmark))
+shown short p id None = refused p (of_edit NoSuchBookmark)
 shown short p id (Some b) = there short p id b
 
 -- no bookmark is pending any more, or so many of the document's are, with a cause if one was met
@@ -131,23 +140,29 @@ abbrev pub scripted : Shortage → Session → After
 scripted short s =
     unless_memory short s.plan (only s.plan (scripted_text (script_text s.rule_text s.plan)))
 
+-- a bookmark is asked for by its id
+abbrev pub shown_id : Shortage → Plan → ℕ → After
+shown_id short p id = shown short p id (bookmark_in p.bookmarks id)
+
 -- a command
 abbrev pub obeyed : Shortage → Session → Command → After
-obeyed short s (command.Edit edit) = unless_memory short s.plan (edited s.plan (asked_of edit))
+obeyed short s (command.Edit edit) =
+    unless_unread short s.plan (edited short s.plan (asked_of edit))
 obeyed short s command.Settle = settled short s.plan
 obeyed short s command.Work = only s.plan working_text
-obeyed short s (command.Show id) = shown short s.plan id (bookmark_in s.plan.bookmarks id)
-obeyed short s (command.Peek id) = shown short s.plan id (bookmark_in s.plan.bookmarks id)
+obeyed short s (command.Show id) = unless_unread short s.plan (shown_id short s.plan id)
+obeyed short s (command.Peek id) = unless_unread short s.plan (shown_id short s.plan id)
 obeyed short s command.Poll = polled short s.plan
 obeyed short s command.List = listed short s.plan
-obeyed short s command.Script = scripted short s
+obeyed short s command.Script = unless_unread short s.plan (scripted short s)
+obeyed short s command.Help = only s.plan help_text
 obeyed short s command.Quit = record { told = bye_text; plan = s.plan; ends = true }
 
 -- what is replied to what is asked; a shortage that can't stand against it counts as none
 abbrev pub answer : Shortage → Session → Ask → After
 answer short s (Obey command) = obeyed short s command
-answer short s (Take format text) = unless_memory short s.plan (taken s.plan format text)
-answer short s (Refuse (BadCommand line)) = unless_memory short s.plan
+answer short s (Take format text) = unless_unread short s.plan (taken short s.plan format text)
+answer short s (Refuse (BadCommand line)) = unless_unread short s.plan
     (refused s.plan (of_script (BadCommand line)))
 answer short s (Refuse (NoEnd line)) = refused s.plan (of_script (NoEnd line))
 

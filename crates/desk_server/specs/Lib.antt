@@ -6,6 +6,7 @@ pub mod Script
 pub mod Jobs
 pub mod Told
 pub mod Served
+pub mod Desks
 pub mod Run
 pub mod Watch
 pub mod Ending

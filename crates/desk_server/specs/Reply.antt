@@ -1,6 +1,7 @@
 -- The texts of the replies.
 use Rattle.std.specs.Prelude.{ℕ, List, ◌++◌, Option, None, Some, length, codes, decimal}
 use Rattle.std.specs.Option.{option_map_or}
+use Rattle.script_help.specs.Commands.{command_list}
 use Rattle.desk_core.specs.declared.cause.Cause.{Cause}
 use Rattle.desk_core.specs.Cause.{cause_number}
 use Rattle.desk_server.specs.Faults.{Fault}
@@ -55,6 +56,11 @@ abbrev pub refused_text : Fault → List ℕ
 refused_text fault =
     codes "refused "
     ++ (decimal fault.number ++ (codes " " ++ (fault.name ++ with_number (codes " ") fault.place)))
+
+-- the list of the commands, after a line with its length
+abbrev pub help_text : List ℕ
+help_text =
+    codes "help " ++ (decimal (length command_list) ++ (codes "\n" ++ command_list))
 
 -- the script ends
 abbrev pub bye_text : List ℕ

@@ -7,8 +7,9 @@ use Rattle.script_lines.specs.Faults.{AppendsFront}
 use Rattle.desk_script.specs.Asks.{asks, Between}
 use Rattle.desk_server.specs.Shortage.{Shortage, AllCausedOver}
 use Rattle.desk_server.specs.Answer.{Session}
-use Rattle.desk_server.specs.Script.{Answered, answered, but_bye, told_to}
-use Rattle.desk_server.specs.Script.{replies_to, replies_by, replies_with}
+use Rattle.desk_server.specs.Script.{Answered, answered, answered_by, answered_with}
+use Rattle.desk_server.specs.Script.{but_bye, replies_by, replies_with, told_to}
+use Rattle.desk_server.specs.Desks.{AnswersAtDesks}
 
 -- something was heard and answered: whatever follows, the answers are those that were given, which
 -- were written, and then those to what follows; and `noted` holds of those but `bye`
@@ -40,19 +41,24 @@ pub record Finishes (noted : List Answered → Type 0) (prompt : Bool) (old new 
   pub law : (rest : List ℕ) → new.bytes ≡ Some rest
       → answered p (asks Ended Between n (lines_until Ended (bytes ++ rest))) shortages ≡ given
 
--- of the replies a beginning was written
-pub record StopsTelling (prompt : Bool) (old new : Ahead) (before after : Option (List ℕ))
-    (p : Session) (n : ℕ)
+-- some answers were given, and a beginning of their replies was written; and `noted` holds of those
+-- but `bye`
+pub record StopsTelling (noted : List Answered → Type 0) (prompt : Bool) (old new : Ahead)
+    (before after : Option (List ℕ)) (p : Session) (n : ℕ)
     : Type 0 where
   pub bytes : List ℕ
   pub shortages : List Shortage
   pub caused : AllCausedOver prompt shortages
   pub taken : TakesBytes old new bytes
-  pub law : (rest : List ℕ) → new.bytes ≡ Some rest
-      → AppendsFront before after
-      (replies_to p (asks Ended Between n (lines_until Ended (bytes ++ rest))) shortages)
+  pub given : List Answered
+  pub wrote : AppendsFront before after (told_to given)
+  pub notes : noted (but_bye given)
+  pub law : (rest : List ℕ) → new.bytes ≡ Some rest → (later : List Answered)
+      × (answered p (asks Ended Between n (lines_until Ended (bytes ++ rest))) shortages
+      ≡ given ++ later)
 
--- what the reader gave was answered as far as commands were read whole
+-- what the reader gave was answered as far as commands were read whole, each at the desk that it
+-- left
 pub record AnswersWhole (prompt : Bool) (old new : Ahead) (before after : Option (List ℕ))
     : Type 0 where
   pub read : List ℕ
@@ -60,17 +66,25 @@ pub record AnswersWhole (prompt : Bool) (old new : Ahead) (before after : Option
   pub caused : AllCausedOver prompt shortages
   pub taken : TakesBytes old new read
   pub wrote : Appends before after (replies_by Broken read shortages)
+  pub desks : AnswersAtDesks (but_bye (answered_by Broken read shortages))
 
--- the replies to the script were written, for some shortages
+-- the replies to the script were written, for some shortages, each at the desk that its command
+-- left
 pub record AnswersAll (prompt : Bool) (before after : Option (List ℕ)) (script : List ℕ)
     : Type 0 where
   pub shortages : List Shortage
   pub caused : AllCausedOver prompt shortages
   pub wrote : Appends before after (replies_with script shortages)
+  pub desks : AnswersAtDesks (but_bye (answered_with script shortages))
 
--- a beginning of the replies was written, for some shortages
+-- a beginning of the replies was written, for some shortages, each at the desk that its command
+-- left
 pub record AnswersFront (prompt : Bool) (before after : Option (List ℕ)) (script : List ℕ)
     : Type 0 where
   pub shortages : List Shortage
   pub caused : AllCausedOver prompt shortages
-  pub wrote : AppendsFront before after (replies_with script shortages)
+  pub given : List Answered
+  pub later : List Answered
+  pub front : answered_with script shortages ≡ given ++ later
+  pub wrote : AppendsFront before after (told_to given)
+  pub desks : AnswersAtDesks (but_bye given)

@@ -70,10 +70,14 @@ abbrev pub afters_with : List ℕ → List Shortage → List After
 afters_with script shortages =
     afters opening_session (asks Ended Between 1 (lines_until Ended script)) shortages
 
--- each command of a script that was answered, with what was replied to it
+-- each command of a script that was answered, with what was replied to it, however its reading
+-- stopped
+abbrev pub answered_by : End → List ℕ → List Shortage → List Answered
+answered_by stop script shortages =
+    answered opening_session (asks stop Between 1 (lines_until stop script)) shortages
+
 abbrev pub answered_with : List ℕ → List Shortage → List Answered
-answered_with script shortages =
-    answered opening_session (asks Ended Between 1 (lines_until Ended script)) shortages
+answered_with = answered_by Ended
 
 -- the document after each reply to a script but `bye`, in order
 abbrev pub documents_with : List ℕ → List Shortage → List Plan

@@ -1,5 +1,8 @@
 -- The reply to what was heard of a script.
-use Rattle.std.specs.Prelude.{◌≡◌, ℕ, List, [], ◌∷◌, Bool, true, if◌then◌else◌, Option}
+use Rattle.std.specs.Prelude.{◌≡◌, ℕ, List, [], ◌∷◌, Bool, if◌then◌else◌, Option, None, Some, IsOk, ⊤}
+use Rattle.rule_file.specs.RuleFile.{file_of}
+use Rattle.multistate_rle.specs.Pattern as rle
+use Rattle.multistate_macrocell.specs.Pattern as macrocells
 use Rattle.script_lines.specs.Text.{IsText}
 use Rattle.schedule.specs.Plan.{Plan}
 use Rattle.dependency_book.specs.BookState.{BookState}
@@ -8,8 +11,9 @@ use Rattle.desk_script.specs.Heard.{IsReadAs}
 use Rattle.desk_script.specs.declared.format.Format.{Format}
 use Rattle.desk_script.specs.declared.format.Format.TheVariants as format
 use Rattle.desk_script.specs.declared.request.Request.{Request}
-use Rattle.desk_server.specs.Shortage.{Shortage, IsCausedOver}
-use Rattle.desk_server.specs.Answer.{After, Session, answer, taken, unless_memory, rule_text_after}
+use Rattle.desk_server.specs.Shortage.{Shortage, NoShortage, Unread, Memory, IsCausedOver}
+use Rattle.desk_server.specs.Answer.{After, Session, answer, no_memory, taken, unless_unread}
+use Rattle.desk_server.specs.Answer.{rule_text_after}
 use Rattle.desk_server.specs.Told.{reply_text, ends}
 use Rattle.desk_server.specs.declared.reply.Reply.{Reply}
 
@@ -23,15 +27,35 @@ abbrev pub GivesAnswerBy : Bool → (Shortage → After) → Reply → BookState
 GivesAnswerBy prompt after reply new =
     (shortage : Shortage) × IsCausedOver prompt shortage × GivesAnswer (after shortage) reply new
 
--- the same of an answer that being out of memory can take the place of, whatever the post
-abbrev pub RepliesOrNoMemory : Plan → After → Reply → BookState → Type 0
-RepliesOrNoMemory p after = GivesAnswerBy true (λ shortage. unless_memory shortage p after)
+-- memory may run out for a text of a format while it is read: a rule's has a name and a table or a
+-- tree, and a pattern's reader may want some
+abbrev pub MayWant : Format → List ℕ → Type 0
+MayWant format.Rule text = IsOk (file_of text)
+MayWant format.Rle text = rle.MayWant text
+MayWant format.Macrocell text = macrocells.MayWant text
 
--- whatever bytes the text has, its reply is that of taking what they mean
+-- what can be short where such a text is taken that was kept: memory to read it, if some may be
+-- wanted, or to make the edit
+abbrev pub IsShortOf : Format → List ℕ → Shortage → Type 0
+IsShortOf format text NoShortage = ⊤
+IsShortOf format text Unread = MayWant format text
+IsShortOf format text Memory = ⊤
+IsShortOf format text _ = ⊥
+
+-- what such a text is answered by
+abbrev pub answer_to_text : Shortage → Plan → Format → List ℕ → After
+answer_to_text short p format text = unless_unread short p (taken short p format text)
+
+-- the reply to a text that was kept is that of taking what it means, or that memory is short
+abbrev pub TakesBytes : Format → List ℕ → Reply → BookState → BookState → Type 0
+TakesBytes format text reply old new =
+    (shortage : Shortage) × IsShortOf format text shortage
+    × GivesAnswer (answer_to_text shortage old.plan format text) reply new
+
+-- so it is, and the reply to one that wasn't kept is that it isn't read, whatever bytes it has
 abbrev pub TakesText : Format → Option (List ℕ) → Reply → BookState → BookState → Type 0
-TakesText format text reply old new =
-    (bytes : List ℕ) → IsText text bytes
-    → RepliesOrNoMemory old.plan (taken old.plan format bytes) reply new
+TakesText format (Some text) reply old new = TakesBytes format text reply old new
+TakesText format None reply old new = GivesAnswer (no_memory old.plan) reply new
 
 -- the text of a rule that is taken is kept
 abbrev pub kept_text : Format → Bool → Option (List ℕ) → Option (List ℕ) → Option (List ℕ)

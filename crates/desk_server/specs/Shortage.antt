@@ -3,11 +3,14 @@ use Rattle.std.specs.Prelude.{◌≡◌, ℕ, Bool, true, List, Option, IsSome, 
 use Rattle.std.specs.List.{AllByRecursion}
 use Rattle.desk_core.specs.declared.cause.Cause.{Cause}
 
--- nothing, memory, a settling that left so many bookmarks pending, for its cause if it has one, a
--- bookmark that stayed pending, a poll after which so many are pending still, with a cause if it met
--- one, or texts where bookmarks are listed: those of the ids with `true` alone are known
+-- nothing; memory to read the words of a command or its text; memory to do what is asked, which
+-- counts only where that has no fault; a settling that left so many bookmarks pending, for its
+-- cause if it has one; a bookmark that stayed pending; a poll after which so many are pending
+-- still, with a cause if it met one; or texts where bookmarks are listed: those of the ids with
+-- `true` alone are known
 pub data Shortage : Type 0 where
   NoShortage : Shortage
+  Unread : Shortage
   Memory : Shortage
   Unsettled : ℕ → Option Cause → Shortage
   Pending : Shortage

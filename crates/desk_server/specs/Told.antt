@@ -18,7 +18,7 @@ use Rattle.desk_server.specs.declared.reply.Reply.TheVariants as reply
 use Rattle.desk_server.specs.Jobs.{IsDoneWith}
 use Rattle.desk_server.specs.Faults.{fault_of, of_edit}
 use Rattle.desk_script.specs.Listed.{bookmark_line, listed_text}
-use Rattle.desk_server.specs.Reply.{scripted_text, accepted_text, settled_text, working_text, unsettled_text, polled_text, current_text, pending_text, refused_text, bye_text}
+use Rattle.desk_server.specs.Reply.{scripted_text, accepted_text, settled_text, working_text, unsettled_text, polled_text, current_text, pending_text, refused_text, help_text, bye_text}
 
 -- a bookmark that is shown: no such one, or without or with its text
 abbrev pub shown_text : ℕ → Option Bookmark → Option (List ℕ) → List ℕ
@@ -41,6 +41,7 @@ reply_text known (reply.Polled pending cause) = polled_text pending cause
 reply_text known reply.Listed = listed_text known.plan (has_text known)
 reply_text known (reply.Scripted script) = scripted_text script
 reply_text known (reply.Refused number name place) = refused_text (fault_of number name.now place)
+reply_text known reply.Help = help_text
 reply_text known reply.Bye = bye_text
 
 -- the line of a bookmark with the text that is known of it, if one is

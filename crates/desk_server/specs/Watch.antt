@@ -17,6 +17,7 @@ use Rattle.desk_server.specs.Shortage.{Shortage, AllCausedOver}
 use Rattle.desk_server.specs.Script.{Answered, answered_with, but_bye, replies_with}
 use Rattle.desk_server.specs.Told.{TellsPending, IsRefused, ends}
 use Rattle.desk_server.specs.Served.{GivesAnswer}
+use Rattle.desk_server.specs.Desks.{IsLeftBy}
 use Rattle.desk_server.specs.declared.reply.Reply.{Reply}
 
 -- a desk was noted, or passed over and counted; the count stays at 2 ^ 64 - 1
@@ -82,6 +83,7 @@ pub record NotesReply {V : Type 0} (notes : V → BookState → V → Type 0) (o
   pub reply : Reply
   pub gives : GivesAnswer one.1 reply new.desk
   pub pending : TellsPending reply new.desk
+  pub left : IsLeftBy one.0 old.desk new.desk
   pub watched : V
   pub before : WatchesReply notes one.0 reply old.post new.post old.desk new.desk old.seen watched
   pub noted : PublishedOrCounted notes old.missed new.missed watched new.desk new.seen

@@ -6,12 +6,13 @@ ghost use Rattle.std.specs.Option.{option_map_or};
 ghost use Rattle.desk_core.specs.Cause.{cause_number};
 ghost use Rattle.desk_server.specs.Faults.{fault_of};
 ghost use Rattle.desk_server.specs.Reply.{accepted_text, polled_text, refused_text, unsettled_text};
-ghost use Rattle.desk_server.specs.Reply.{scripted_text};
+ghost use Rattle.desk_server.specs.Reply.{help_text, scripted_text};
 ghost use Rattle.desk_server.specs.Told.{IsRefused, TellsPending, reply_text, ends};
 
 use crate::listing::tell_list;
 use desk_core::{Cause, Desk, EditFault, Listing, Refusal, Shown};
 use desk_script::{Part, tell_parts};
+use script_help::command_list;
 use script_lines::{CountedWriter, Failed};
 use std::io::Write;
 use std::sync::ledger::Ledger;
@@ -55,6 +56,8 @@ pub enum Reply {
         name: &'static str,
         place: Option<u64>,
     },
+    /// The list of the commands.
+    Help,
     /// The script ends.
     Bye,
 }
@@ -242,6 +245,17 @@ fn tell_scripted<W: Write, L: Ledger>(
     tell_parts(writer, &[Part::Text(script), word, size, Part::Text(b"\n")])
 }
 
+// Writes the list of the commands, after a line that says how many bytes it has.
+fn tell_help<W: Write, L: Ledger>(writer: &mut CountedWriter<W, L>) -> Result<(), Failed>
+    ensures bytes { Wrote writer.old.contents writer.new.contents result help_text }
+    ensures worked { OnOk result (writer.new.failures ≡ writer.old.failures) }
+    ensures failed { OnErr result (writer.new.failures ≡ writer.old.failures + 1) }
+{
+    let list = command_list().as_bytes();
+    let (word, size) = (Part::Text(b"help "), Part::Number(list.len() as u64));
+    tell_parts(writer, &[word, size, Part::Text(b"\n"), Part::Text(list)])
+}
+
 fn tell<W: Write, L: Ledger>(
     writer: &mut CountedWriter<W, L>,
     desk: &Desk<'_>,
@@ -270,6 +284,7 @@ fn tell<W: Write, L: Ledger>(
             name,
             place,
         } => tell_refused(writer, *number, name, *place),
+        Reply::Help => tell_help(writer),
         Reply::Bye => writer.tell(b"bye\n"),
     }
 }

@@ -1,21 +1,23 @@
 //! What the desk does when something is asked.
-ghost use Rattle.std.specs.Prelude.{◌≡◌, IfNone, false, true};
+ghost use Rattle.std.specs.Prelude.{◌≡◌, ℕ, List, IfNone, false, true};
 ghost use Rattle.std.specs.Arc.{arc_value};
-ghost use Rattle.schedule.specs.Asked.{asked_of};
+ghost use Rattle.schedule.specs.Asked.{ReplaceStart, asked_of};
 ghost use Rattle.dependency_book.specs.BookState.{NothingOut, pending_of};
+ghost use Rattle.dependency_book.specs.Right.{IsRightBook};
 ghost use Rattle.dependency_book.specs.Shown.{IsPending};
 ghost use Rattle.desk_core.specs.Looks.{LooksOn};
-ghost use Rattle.desk_events.specs.Wanted.{bookmark_in};
 ghost use Rattle.desk_script.specs.Asks.{Ask, Obey};
 ghost use Rattle.desk_script.specs.Heard.{IsReadAs};
+ghost use Rattle.script_lines.specs.Text.{IsText};
 ghost use Rattle.desk_server.specs.Answer.{edited, id_word, listed, obeyed, only};
-ghost use Rattle.desk_server.specs.Answer.{polled, scripted, settled, shown, started, taken};
-ghost use Rattle.desk_server.specs.Served.{GivesAnswerBy, RepliesOrNoMemory, KeepsText, AnswersRequest, KeepsTaken};
-ghost use Rattle.desk_server.specs.Served.{TakesText, kept_text, session};
+ghost use Rattle.desk_server.specs.Answer.{polled, scripted, settled, shown_id, started, unless_unread};
+ghost use Rattle.desk_server.specs.Served.{GivesAnswerBy, KeepsText, AnswersRequest, KeepsTaken};
+ghost use Rattle.desk_server.specs.Served.{TakesBytes, TakesText, kept_text, session};
 ghost use Rattle.desk_server.specs.Reply.{working_text};
 ghost use Rattle.desk_server.specs.Jobs.{PostMatchesDesk, CarriesOn, DropsJobs};
-ghost use Rattle.desk_core.specs.Settling.{TellsCause};
+ghost use Rattle.desk_core.specs.Settling.{KeepsKnown, TellsCause};
 ghost use Rattle.desk_server.specs.Jobs.{IsDoneWith, KeepsCauses};
+ghost use Rattle.desk_server.specs.Desks.{IsLeftBy, Learned, RevisedOrSame, TakenOrSame};
 ghost use Rattle.desk_server.specs.Told.{LeavesOver, PollsBy, TakesAnswers, TellsPending, ends};
 ghost use Rattle.desk_server.specs.Watch.{WatchesReply};
 
@@ -40,7 +42,7 @@ fn id_word(edit: &Edit) -> &'static str
     ensures { result.now ≡ id_word (asked_of edit.now) }
 {
     match edit {
-        Edit::InsertIntervention { .. } | Edit::InsertRepeat { .. } => " intervention ",
+        Edit::Insert { .. } => " intervention ",
         Edit::AddBookmark { .. } => " bookmark ",
         Edit::AddBranch { .. } => " branch ",
         _ => "",
@@ -49,8 +51,9 @@ fn id_word(edit: &Edit) -> &'static str
 
 // Makes an edit, or refuses it.
 fn edit(desk: &mut Desk<'_>, edit: &Edit) -> Reply
-    ensures answer { RepliesOrNoMemory desk.old.plan (edited desk.old.plan (asked_of edit.now))
+    ensures answer { GivesAnswerBy true (λ short. edited short desk.old.plan (asked_of edit.now))
         result desk.new }
+    ensures left { RevisedOrSame (asked_of edit.now) desk.old desk.new }
     ensures jobs { DropsJobs desk.old desk.new }
     ensures pending { TellsPending result desk.new }
 {
@@ -66,8 +69,8 @@ fn edit(desk: &mut Desk<'_>, edit: &Edit) -> Reply
 
 // Takes the rule that a text means.
 fn take_rule(alloc: Global, desk: &mut Desk<'_>, text: &[u8]) -> Reply
-    ensures answer { RepliesOrNoMemory desk.old.plan (taken desk.old.plan Format.Rule text.now)
-        result desk.new }
+    ensures answer { TakesBytes Format.Rule text.now result desk.old desk.new }
+    ensures left { TakenOrSame Format.Rule text.now desk.old desk.new }
     ensures jobs { DropsJobs desk.old desk.new }
     ensures pending { TellsPending result desk.new }
 {
@@ -84,8 +87,9 @@ fn take_rule(alloc: Global, desk: &mut Desk<'_>, text: &[u8]) -> Reply
 // Takes a start whose file names this generation, or refuses it; the desk counts from 0 all the
 // same.
 fn begin(desk: &mut Desk<'_>, start: Arc<Plane>, generation: u64) -> Reply
-    ensures answer { RepliesOrNoMemory desk.old.plan (started desk.old.plan generation (arc_value start))
-        result desk.new }
+    ensures answer { GivesAnswerBy true
+        (λ short. started short desk.old.plan generation (arc_value start)) result desk.new }
+    ensures left { RevisedOrSame (ReplaceStart (arc_value start)) desk.old desk.new }
     ensures jobs { DropsJobs desk.old desk.new }
     ensures pending { TellsPending result desk.new }
 {
@@ -102,8 +106,9 @@ fn begin(desk: &mut Desk<'_>, start: Arc<Plane>, generation: u64) -> Reply
 
 // Takes the start that a file holds.
 fn take_start(alloc: Global, desk: &mut Desk<'_>, pattern: Loaded) -> Reply
-    ensures answer { RepliesOrNoMemory desk.old.plan
-        (started desk.old.plan pattern.generation pattern.plane) result desk.new }
+    ensures answer { GivesAnswerBy true (λ short. unless_unread short desk.old.plan
+        (started short desk.old.plan pattern.generation pattern.plane)) result desk.new }
+    ensures left { RevisedOrSame (ReplaceStart pattern.plane) desk.old desk.new }
     ensures jobs { DropsJobs desk.old desk.new }
     ensures pending { TellsPending result desk.new }
 {
@@ -115,8 +120,8 @@ fn take_start(alloc: Global, desk: &mut Desk<'_>, pattern: Loaded) -> Reply
 
 // Takes the start that a run-length encoded text means.
 fn take_rle(alloc: Global, desk: &mut Desk<'_>, text: &[u8]) -> Reply
-    ensures answer { RepliesOrNoMemory desk.old.plan (taken desk.old.plan Format.Rle text.now)
-        result desk.new }
+    ensures answer { TakesBytes Format.Rle text.now result desk.old desk.new }
+    ensures left { TakenOrSame Format.Rle text.now desk.old desk.new }
     ensures jobs { DropsJobs desk.old desk.new }
     ensures pending { TellsPending result desk.new }
 {
@@ -128,8 +133,8 @@ fn take_rle(alloc: Global, desk: &mut Desk<'_>, text: &[u8]) -> Reply
 
 // Takes the start that a macrocell text means.
 fn take_macrocell(alloc: Global, desk: &mut Desk<'_>, text: &[u8]) -> Reply
-    ensures answer { RepliesOrNoMemory desk.old.plan (taken desk.old.plan Format.Macrocell text.now)
-        result desk.new }
+    ensures answer { TakesBytes Format.Macrocell text.now result desk.old desk.new }
+    ensures left { TakenOrSame Format.Macrocell text.now desk.old desk.new }
     ensures jobs { DropsJobs desk.old desk.new }
     ensures pending { TellsPending result desk.new }
 {
@@ -141,8 +146,8 @@ fn take_macrocell(alloc: Global, desk: &mut Desk<'_>, text: &[u8]) -> Reply
 
 // Takes what a text of this format means.
 fn take(alloc: Global, desk: &mut Desk<'_>, format: Format, text: &[u8]) -> Reply
-    ensures answer { RepliesOrNoMemory desk.old.plan (taken desk.old.plan format text.now)
-        result desk.new }
+    ensures answer { TakesBytes format text.now result desk.old desk.new }
+    ensures left { TakenOrSame format text.now desk.old desk.new }
     ensures jobs { DropsJobs desk.old desk.new }
     ensures pending { TellsPending result desk.new }
 {
@@ -157,6 +162,8 @@ fn take(alloc: Global, desk: &mut Desk<'_>, format: Format, text: &[u8]) -> Repl
 fn take_kept(alloc: Global, desk: &mut Desk<'_>, format: Format, text: &Text) -> Reply
     ensures answer { TakesText format text.now result desk.old desk.new }
     ensures same { text.now ≡ None → desk.new.plan ≡ desk.old.plan }
+    ensures left { (bytes : List ℕ) → IsText text.now bytes
+        → TakenOrSame format bytes desk.old desk.new }
     ensures jobs { DropsJobs desk.old desk.new }
     ensures pending { TellsPending result desk.new }
 {
@@ -185,6 +192,8 @@ fn take_text(
 ) -> Reply
     ensures answer { TakesText format text result desk.old desk.new }
     ensures kept { KeepsTaken format text (session desk.old rule.old) desk.new rule.new }
+    ensures left { (bytes : List ℕ) → IsText text bytes
+        → TakenOrSame format bytes desk.old desk.new }
     ensures jobs { DropsJobs desk.old desk.new }
     ensures pending { TellsPending result desk.new }
 {
@@ -200,6 +209,8 @@ fn give_up(desk: &mut Desk<'_>)
     ensures plan { desk.new.plan ≡ desk.old.plan }
     ensures jobs { DropsJobs desk.old desk.new }
     ensures causes { KeepsCauses desk.old desk.new }
+    ensures known { KeepsKnown desk.old desk.new }
+    ensures right { IsRightBook desk.old → IsRightBook desk.new }
     ensures none { NothingOut desk.new }
 {
     let mut first = desk.first_out();
@@ -211,7 +222,7 @@ fn give_up(desk: &mut Desk<'_>)
 
 // Computes what isn't known, and gives the cause where one left bookmarks pending. Whatever is out
 // then is given up, so that it is computed anew another time.
-#[tactic(auto, using(crate::proofs::Jobs::carries_served, crate::proofs::Jobs::carries_on, crate::proofs::Jobs::causes_kept, crate::proofs::Jobs::why_explained, crate::proofs::Jobs::why_stopped, crate::proofs::Jobs::none_untold))]
+#[tactic(auto, using(crate::proofs::Jobs::carries_served, crate::proofs::Jobs::carries_on, crate::proofs::Jobs::causes_kept, crate::proofs::Jobs::why_explained, crate::proofs::Jobs::why_stopped, crate::proofs::Jobs::none_untold, crate::proofs::Jobs::learned_then))]
 fn compute<P: Post, O: Onlooker>(
     rt: &impl Wait,
     desk: &mut Desk<'_>,
@@ -223,6 +234,7 @@ fn compute<P: Post, O: Onlooker>(
     ensures caused { (P.view post.old).is_prompt ≡ true → IfNone result (pending_of desk.new ≡ 0) }
     ensures explained { TellsCause (P.view post.old) (P.view post.new) desk.old desk.new result }
     ensures given_up { IsDoneWith desk.new }
+    ensures left { Learned desk.old desk.new }
     ensures post { CarriesOn (P.view post.old) (P.view post.new) desk.new }
     ensures looked { LooksOn O.sees (P.view post.old) (P.view post.new) desk.old
         onlooker.old onlooker.new }
@@ -248,6 +260,7 @@ fn settle<P: Post, O: Onlooker>(
     ensures answer { GivesAnswerBy (P.view post.old).is_prompt (λ short. settled short desk.old.plan)
         result desk.new }
     ensures leaves { LeavesOver (P.view post.old) (P.view post.new) result desk.old desk.new }
+    ensures left { Learned desk.old desk.new }
     ensures post { CarriesOn (P.view post.old) (P.view post.new) desk.new }
     ensures pending { TellsPending result desk.new }
     ensures looked { WatchesReply O.sees (Obey Command.Settle) result (P.view post.old)
@@ -268,6 +281,7 @@ fn work<P: Post>(rt: &impl Wait, desk: &mut Desk<'_>, post: &mut P) -> Reply
     ensures answer { GivesAnswerBy (P.view post.old).is_prompt
         (λ short. only desk.old.plan working_text) result desk.new }
     ensures silent { (P.view post.new).answers ≡ (P.view post.old).answers }
+    ensures left { Learned desk.old desk.new }
     ensures post { CarriesOn (P.view post.old) (P.view post.new) desk.new }
     ensures pending { TellsPending result desk.new }
     ensures goes_on { ends result ≡ false }
@@ -288,9 +302,9 @@ fn show<P: Post, O: Onlooker>(
 ) -> Reply
     requires { PostMatchesDesk (P.view post.old) desk.old }
     ensures answer { GivesAnswerBy (P.view post.old).is_prompt
-        (λ short. shown short desk.old.plan id (bookmark_in desk.old.plan.bookmarks id))
-        result desk.new }
+        (λ short. shown_id short desk.old.plan id) result desk.new }
     ensures at_once { ¬ IsPending desk.old id → (desk.new ≡ desk.old) × (post.new ≡ post.old) }
+    ensures left { IsLeftBy (Obey (Command.Show id)) desk.old desk.new }
     ensures leaves { LeavesOver (P.view post.old) (P.view post.new) result desk.old desk.new }
     ensures post { CarriesOn (P.view post.old) (P.view post.new) desk.new }
     ensures is { result ≡ Reply.Shown id }
@@ -317,6 +331,7 @@ fn poll<P: Post>(rt: &impl Wait, desk: &mut Desk<'_>, post: &mut P) -> Reply
         result desk.new }
     ensures leaves { LeavesOver (P.view post.old) (P.view post.new) result desk.old desk.new }
     ensures polls { PollsBy (P.view post.old) (P.view post.new) desk.old desk.new result }
+    ensures left { Learned desk.old desk.new }
     ensures post { CarriesOn (P.view post.old) (P.view post.new) desk.new }
     ensures pending { TellsPending result desk.new }
 {
@@ -328,9 +343,7 @@ fn poll<P: Post>(rt: &impl Wait, desk: &mut Desk<'_>, post: &mut P) -> Reply
 
 // Shows a bookmark as it is known now.
 fn peek(desk: &Desk<'_>, id: u64) -> Reply
-    ensures answer { GivesAnswerBy true
-        (λ short. shown short desk.now.plan id (bookmark_in desk.now.plan.bookmarks id))
-        result desk.now }
+    ensures answer { GivesAnswerBy true (λ short. shown_id short desk.now.plan id) result desk.now }
     ensures pending { TellsPending result desk.now }
 {
     // What the desk shows is what starting over gives.
@@ -375,6 +388,7 @@ fn obey<P: Post, O: Onlooker>(
         (λ short. obeyed short (session desk.old rule.now) command) result desk.new }
     ensures leaves { TakesAnswers command
         → LeavesOver (P.view post.old) (P.view post.new) result desk.old desk.new }
+    ensures left { IsLeftBy (Obey command) desk.old desk.new }
     ensures post { CarriesOn (P.view post.old) (P.view post.new) desk.new }
     ensures pending { TellsPending result desk.new }
     ensures looked { WatchesReply O.sees (Obey command) result (P.view post.old)
@@ -389,13 +403,14 @@ fn obey<P: Post, O: Onlooker>(
         Command::Poll => poll(rt, desk, post),
         Command::List => list(desk),
         Command::Script => script(alloc, desk, rule),
+        Command::Help => Reply::Help,
         Command::Quit => Reply::Bye,
     }
 }
 
 /// Does what a request asks, and gives the reply. What has to be computed goes over the post, while
 /// the desk is looked at and the bell rings.
-#[tactic(auto, using(crate::proofs::Replies::keeps_obeyed, crate::proofs::Replies::serves_taken, crate::proofs::Replies::keeps_taken, crate::proofs::Replies::keeps_same, crate::proofs::Noted::looked_obeyed))]
+#[tactic(auto, using(crate::proofs::Replies::keeps_obeyed, crate::proofs::Replies::keeps_taken, crate::proofs::Replies::keeps_same, crate::proofs::Noted::looked_obeyed, crate::proofs::Left::left_obeyed, crate::proofs::Left::left_taken, crate::proofs::Left::left_refused, crate::proofs::Left::left_none))]
 pub(crate) fn serve<P: Post, O: Onlooker>(
     rt: &impl Wait,
     alloc: Global,
@@ -413,6 +428,7 @@ pub(crate) fn serve<P: Post, O: Onlooker>(
     ensures leaves { (command : Command) → request ≡ Request.Obey command
         → TakesAnswers command
         → LeavesOver (P.view post.old) (P.view post.new) result desk.old desk.new }
+    ensures left { (ask : Ask) → IsReadAs request ask → IsLeftBy ask desk.old desk.new }
     ensures post { CarriesOn (P.view post.old) (P.view post.new) desk.new }
     ensures pending { TellsPending result desk.new }
     ensures looked { (ask : Ask) → IsReadAs request ask → WatchesReply O.sees ask result

@@ -1,6 +1,7 @@
 //! A script, answered while it is read.
 ghost use Rattle.std.specs.Prelude.{◌≡◌, Err, OnOk};
 ghost use Rattle.schedule.specs.Plan.{opening};
+ghost use Rattle.dependency_book.specs.Right.{IsRightBook};
 ghost use Rattle.desk_server.specs.Jobs.{PostMatchesDesk, IsFresh};
 ghost use Rattle.desk_server.specs.Ending.{Completes, ReadStops, WriteStops};
 ghost use Rattle.desk_server.specs.Watch.{NotesRun};
@@ -49,6 +50,7 @@ fn answer_commands<R: Read, W: Write, L: Ledger, M: Ledger, P: Post, O: Onlooker
     bell: &mut impl Bell,
 ) -> Result<u64, Device>
     requires opening { desk.old.plan ≡ opening 0 }
+    requires right { IsRightBook desk.old }
     requires carries { PostMatchesDesk (P.view post.old) desk.old }
     ensures done { OnOk result
         (Completes (P.view post.old).is_prompt reader.old reader.new writer.old writer.new) }

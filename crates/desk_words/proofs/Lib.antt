@@ -1,8 +1,4 @@
-pub mod Defaults
-pub mod Parsed
-pub mod Chosen
-pub mod Requests
-pub mod Rows
-pub mod Walked
 pub mod Asked
-pub mod Names
+pub mod Found
+pub mod Requests
+pub mod Walked

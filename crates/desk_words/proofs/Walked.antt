@@ -1,28 +1,45 @@
 -- The walk of a parse over the words of choices.
-use Rattle.desk_words.proofs.Names.{Bool, Choice, CommandLine, Held, IsInOrder, IsNumeral, List, None, Option, Row, Rule, Setting, Shape, Some, Text, Unsigned, Walk, [], ap, append-nil, arith, built, codes, cond, desk, digits_value, drop}
-use Rattle.desk_words.proofs.Names.{false, filled, fold, has_row, if◌then◌else◌, least_of, more_values, most_of, name_of, ne_eqb, numbered, option_of, progress, progress_name, progress_rule, reading_by, refl, refused_kind, setting_rule}
-use Rattle.desk_words.proofs.Names.{settle_fault, settled_rows, true, turn_fault, use_fault, used, value_kinds, walked, with_index, with_values, without, without_leading_plus, words_of, ℕ, ◌++◌, ◌<◌, ◌==◌, ◌^◌, ◌∙◌, ◌∷◌, ◌≡◌, ◌≤◌}
-use Rattle.std.proofs.lemmas.Str.Parse.{digit_from_value}
-use Rattle.clap.proofs.ValueTestLemmas.{Accepts-accepts}
-use Rattle.clap.specs.Faults.{walk_fault}
-use Rattle.clap.specs.Walk.Waiting.{idle, option}
 use Rattle.clap.proofs.OnLiterals.{clap_on_literals}
-use Rattle.desk_words.proofs.Rows.{put_behind}
+use Rattle.clap.specs.Faults.{settle_fault, turn_fault, use_fault, walk_fault}
+use Rattle.clap.specs.Kinds.{Kinds}
+use Rattle.clap.specs.Simple.{Shape, built, filled, with_index}
+use Rattle.clap.specs.Walk.{Held, Row, Rule, Text, Walk, at_row, has_row, more_values, reading_by, settled_rows, used, walked, with_values, without}
+use Rattle.clap.specs.Walk.Waiting.{idle, option}
+use Rattle.clap.specs.declared.parser.matches.ValueSource.TheVariants.{CommandLine}
+use Rattle.desk_words.specs.Command.{desk, progress_rule, setting_rule}
+use Rattle.desk_words.specs.Setting.{name_of, progress_name}
+use Rattle.desk_words.specs.Words.{Choice, IsInOrder, option_of, words_of}
+use Rattle.desk_words.specs.Words.Choice.{numbered, progress}
+use Rattle.desk_words.specs.declared.settings.Setting.{Setting}
+use Rattle.std.proofs.Common.{Bool, List, None, Option, Some, [], ap, append-nil, arith, codes, false, fold, refl, subst, sym, true, ℕ, ◌++◌, ◌==◌, ◌∙◌, ◌∷◌, ◌≡◌}
+use Rattle.std.proofs.lemmas.Bool.{ne_eqb}
+use Rattle.std.proofs.lemmas.Str.Parse.{digit_from_value}
+use Rattle.std.specs.Str.Parse.{IsNumeral}
 
 -- the command as it is built, and its options
 abbrev pub shape : Shape
 shape = (built desk).top
 
-abbrev pub rules : List Rule
-rules = shape.rules
+abbrev pub desk_rules : List Rule
+desk_rules = shape.rules
 
--- the option of a setting there
-abbrev pub rule_for : Setting → Rule
-rule_for setting = with_index 1 (filled (setting_rule setting))
+-- the option of a choice there
+abbrev pub rule_in : Choice → Rule
+rule_in (numbered s digits apart) = with_index 1 (filled (setting_rule s))
+rule_in progress = with_index 1 (filled progress_rule)
 
--- and that for progress
-abbrev pub progress_in : Rule
-progress_in = with_index 1 (filled progress_rule)
+-- the values that it is used with, and their text
+abbrev pub values_for : Choice → List Text
+values_for (numbered s digits apart) = digits ∷ []
+values_for progress = []
+
+abbrev pub text_for : Choice → Text
+text_for (numbered s digits apart) = digits
+text_for progress = codes "true"
+
+-- the row of a choice
+abbrev pub row_for : Choice → Row
+row_for choice = record { id = option_of choice; values = text_for choice ∷ []; count = None; source = Some CommandLine; reading = reading_by (rule_in choice) }
 
 abbrev pub Pending : Type 0
 Pending = Option (Text × List Text)
@@ -35,174 +52,121 @@ abbrev pub between : List Row → Pending → Walk
 between rows pending = record { held = held rows pending; waiting = idle; position = 1; is_trailing = false; stopped = None }
 
 -- the walk behind the name of a setting
-abbrev pub behind : Setting → List Row → Walk
-behind setting rows = record { held = held rows (Some (name_of setting, [])); waiting = option (name_of setting); position = 1; is_trailing = false; stopped = None }
+abbrev behind : Setting → List Row → Walk
+behind s rows = record { held = held rows (Some (name_of s, [])); waiting = option (name_of s); position = 1; is_trailing = false; stopped = None }
 
-abbrev pub dashed : Setting → Text
-dashed setting = codes "--" ++ name_of setting
+abbrev dashed : Text → Text
+dashed name = codes "--" ++ name
 
-abbrev pub attached : Setting → Text → Text
-attached setting digits = codes "--" ++ name_of setting ++ codes "=" ++ digits
+-- the word of a choice that has but one
+abbrev word_of : Choice → Text
+word_of (numbered s digits apart) = codes "--" ++ name_of s ++ codes "=" ++ digits
+word_of progress = dashed progress_name
 
-attached_turn : (s : Setting) (digits : Text) (rows : List Row) (pending : Pending) → settle_fault rules false (held rows pending) ≡ []
-    → use_fault false (rule_for s) (digits ∷ []) (settled_rows rules pending rows) ≡ [] → turn_fault shape [] (between rows pending) (attached s digits) ≡ []
+-- a choice passes where its option has no row yet
+use_passes : (choice : Choice) (rows : List Row) → has_row (option_of choice) rows ≡ false → use_fault false (rule_in choice) (values_for choice) rows ≡ []
 unfolding clap_on_literals
-attached_turn s digits rows pending settles passes = grind arith
+use_passes (numbered s digits apart) rows fresh = rw fresh refl
+use_passes progress rows fresh = rw fresh refl
 
-attached_walk : (s : Setting) (digits : Text) (rows : List Row) (pending : Pending)
-    → walked rules [] (between rows pending) (attached s digits) ≡ between (used (rule_for s) (digits ∷ []) (settled_rows rules pending rows)) None
-unfolding clap_on_literals
-attached_walk s digits rows pending = grind arith
+-- and puts its row behind the others
+put_behind : (id : Text) (change : Row → List Row) (missing : List Row) (rows : List Row) → has_row id rows ≡ false → at_row id change missing rows ≡ rows ++ missing
+put_behind id change missing [] fresh = refl
+put_behind id change missing (r ∷ rows) fresh = grind (arith, put_behind id change missing rows)
 
-dashed_turn : (s : Setting) (rows : List Row) (pending : Pending) → settle_fault rules false (held rows pending) ≡ [] → turn_fault shape [] (between rows pending) (dashed s) ≡ []
-unfolding clap_on_literals
-dashed_turn s rows pending settles = grind arith
+used_as_row : (choice : Choice) (rows : List Row) → used (rule_in choice) (values_for choice) rows
+    ≡ with_values (option_of choice) (reading_by (rule_in choice)) CommandLine (text_for choice ∷ []) (without (option_of choice) rows)
+used_as_row (numbered s digits apart) rows = refl
+used_as_row progress rows = refl
 
-dashed_walk : (s : Setting) (rows : List Row) (pending : Pending) → walked rules [] (between rows pending) (dashed s) ≡ behind s (settled_rows rules pending rows)
-unfolding clap_on_literals
-dashed_walk s rows pending = grind arith
-
-value_turn : (s : Setting) (x : ℕ) (word : Text) (rows : List Row) → (x == 45) ≡ false → turn_fault shape [] (behind s rows) (x ∷ word) ≡ []
-unfolding clap_on_literals
-value_turn s x word rows other = grind arith
-
-value_walk : (s : Setting) (x : ℕ) (word : Text) (rows : List Row) → (x == 45) ≡ false → walked rules [] (behind s rows) (x ∷ word) ≡ between rows (Some (name_of s, (x ∷ word) ∷ []))
-unfolding clap_on_literals
-value_walk s x word rows other = grind arith
-
-abbrev pub flag : Text
-flag = codes "--" ++ progress_name
-
-flag_turn : (rows : List Row) (pending : Pending) → settle_fault rules false (held rows pending) ≡ []
-    → use_fault false progress_in [] (settled_rows rules pending rows) ≡ [] → turn_fault shape [] (between rows pending) flag ≡ []
-unfolding clap_on_literals
-flag_turn rows pending settles passes = rw (settles, passes) refl
-
-flag_walk : (rows : List Row) (pending : Pending) → walked rules [] (between rows pending) flag ≡ between (used progress_in [] (settled_rows rules pending rows)) None
-unfolding clap_on_literals
-flag_walk rows pending = refl
-
--- it passes where it wasn't used before
-flag_passes : (rows : List Row) → has_row progress_name rows ≡ false → use_fault false progress_in [] rows ≡ []
-unfolding clap_on_literals
-flag_passes rows fresh = rw fresh refl
-
--- such an option takes the value of a choice in order, where it wasn't used before
-value_passes : (s : Setting) (digits : Text) → value_kinds false (Unsigned (least_of s) (most_of s)) digits ≡ [] → (rows : List Row) → has_row (name_of s) rows ≡ false → use_fault false (rule_for s) (digits ∷ []) rows ≡ []
-value_passes s digits taken rows fresh = rw (fresh, taken) refl
-
--- it is the option that its id names
-settles_as : (s : Setting) (digits : Text) (rows : List Row) → settle_fault rules false (held rows (Some (name_of s, digits ∷ []))) ≡ use_fault false (rule_for s) (digits ∷ []) rows
-unfolding clap_on_literals
-settles_as s digits rows = grind arith
-
-settled_as : (s : Setting) (digits : Text) (rows : List Row) → settled_rows rules (Some (name_of s, digits ∷ [])) rows ≡ used (rule_for s) (digits ∷ []) rows
-unfolding clap_on_literals
-settled_as s digits rows = grind arith
+used_puts : (choice : Choice) (rows : List Row) → has_row (option_of choice) rows ≡ false → used (rule_in choice) (values_for choice) rows ≡ rows ++ row_for choice ∷ []
+used_puts choice rows fresh =
+    let id = option_of choice in
+    let out : without id rows ≡ rows = put_behind id (λ _. []) [] rows fresh ∙ append-nil rows in
+    used_as_row choice rows ∙ ap (with_values id (reading_by (rule_in choice)) CommandLine (text_for choice ∷ [])) out
+    ∙ put_behind id (more_values CommandLine (text_for choice ∷ [])) (row_for choice ∷ []) rows fresh
 
 -- what is pending settles, and then these are the rows
 pub record Stands (rows before : List Row) (pending : Pending) : Type 0 where
-  pub settles : settle_fault rules false (held before pending) ≡ []
-  pub are : settled_rows rules pending before ≡ rows
+  pub settles : settle_fault desk_rules false (held before pending) ≡ []
+  pub are : settled_rows desk_rules pending before ≡ rows
 
--- the text of a choice, and its option
-abbrev pub text_for : Choice → Text
-text_for (numbered s digits apart) = digits
-text_for progress = codes "true"
-
-abbrev pub rule_by : Choice → Rule
-rule_by (numbered s digits apart) = rule_for s
-rule_by progress = progress_in
-
--- the row of a choice
-abbrev pub row_for : Choice → Row
-row_for choice = record { id = option_of choice; values = text_for choice ∷ []; count = None; source = Some CommandLine; reading = reading_by (rule_by choice) }
-
-put_used : (choice : Choice) (rows : List Row) → has_row (option_of choice) rows ≡ false
-    → with_values (option_of choice) (reading_by (rule_by choice)) CommandLine (text_for choice ∷ []) (without (option_of choice) rows) ≡ rows ++ row_for choice ∷ []
-put_used choice rows fresh =
-    let id = option_of choice in
-    let out : without id rows ≡ rows = put_behind id (λ _. []) [] rows fresh ∙ append-nil rows in
-    ap (with_values id (reading_by (rule_by choice)) CommandLine (text_for choice ∷ [])) out
-    ∙ put_behind id (more_values CommandLine (text_for choice ∷ [])) (row_for choice ∷ []) rows fresh
-
--- one word more
-fault_step : (w after : Walk) (word : Text) (more : List Text) → turn_fault shape [] w word ≡ [] → walked rules [] w word ≡ after → walk_fault shape [] w (word ∷ more) ≡ walk_fault shape [] after more
-unfolding walk_fault
-fault_step w after word more turn step = rw (turn, step) refl
-
-fold_step : (w after : Walk) (word : Text) (more : List Text) → walked rules [] w word ≡ after → fold (walked rules []) w (word ∷ more) ≡ fold (walked rules []) after more
-fold_step w after word more step = rw step refl
+-- what a walk makes of words: why they are refused, and where it ends
+abbrev pub run : Walk → List Text → Kinds × Walk
+run w words = (walk_fault shape [] w words, fold (walked desk_rules []) w words)
 
 -- from one place between choices the words lead to another, whatever follows
 pub record Leads (before : List Row) (pending : Pending) (words : List Text) (rows : List Row) : Type 0 where
   pub after : List Row
   pub waits : Pending
   pub stands : Stands rows after waits
-  pub faults : (more : List Text) → walk_fault shape [] (between before pending) (words ++ more) ≡ walk_fault shape [] (between after waits) more
-  pub walk : (more : List Text) → fold (walked rules []) (between before pending) (words ++ more) ≡ fold (walked rules []) (between after waits) more
+  pub runs : (more : List Text) → run (between before pending) (words ++ more) ≡ run (between after waits) more
 
-most_small : (s : Setting) → most_of s ≤ 16777216
-most_small s = grind arith
+-- a word that isn't refused, and where it leads
+abbrev Passes : Walk → Text → Walk → Type 0
+Passes w word after = (turn_fault shape [] w word ≡ []) × (walked desk_rules [] w word ≡ after)
 
-pub no_plus : (digits : Text) → IsNumeral 10 digits → without_leading_plus digits ≡ digits
-no_plus [] h = refl
-no_plus (d ∷ ds) h =
-    let plus : (d == 43) ≡ false = ne_eqb _ _ (λ e. omega (arith, digit_from_value d h.1.0)) in
-    ap (λ b. drop (cond b 1 0) (d ∷ ds)) plus
+run_word : (w after : Walk) (word : Text) (more : List Text) → Passes w word after → run w (word ∷ more) ≡ run after more
+unfolding walk_fault
+run_word w after word more passes = rw (passes.0, passes.1) refl
 
--- a number of its range passes
-taken : (s : Setting) (digits : Text) (apart : Bool) → IsInOrder (numbered s digits apart) → value_kinds false (Unsigned (least_of s) (most_of s)) digits ≡ []
-taken s digits apart order =
-    let small : digits_value 10 digits < 2 ^ 64 = omega (arith, order.2, most_small s) in
-    let parser = Unsigned (least_of s) (most_of s) in
-    let accepted = Accepts-accepts false parser digits (rw (no_plus digits order.0) (order.0, small, order.1, order.2)) in
-    ap (λ b. if b then [] else refused_kind parser ∷ []) accepted
+-- a choice of one word
+word_passes : (choice : Choice) (rows : List Row) (pending : Pending) → settle_fault desk_rules false (held rows pending) ≡ []
+    → use_fault false (rule_in choice) (values_for choice) (settled_rows desk_rules pending rows) ≡ []
+    → Passes (between rows pending) (word_of choice) (between (used (rule_in choice) (values_for choice) (settled_rows desk_rules pending rows)) None)
+unfolding clap_on_literals
+word_passes (numbered s digits apart) rows pending settles passes = (grind arith, grind arith)
+word_passes progress rows pending settles passes = (rw (settles, passes) refl, refl)
 
--- one word puts a row behind the others, if the row that is used by it stands there
-one_leads : (choice : Choice) (word : Text) (rows before after : List Row) (pending : Pending) → Stands rows before pending → turn_fault shape [] (between before pending) word ≡ []
-    → walked rules [] (between before pending) word ≡ between after None → after ≡ settled_rows rules pending before ++ row_for choice ∷ []
-    → Leads before pending (word ∷ []) (rows ++ row_for choice ∷ [])
-one_leads choice word rows before after pending stands turn step put = record {
-  after = after;
-  waits = None;
-  stands = record { settles = refl; are = put ∙ ap (λ r. r ++ row_for choice ∷ []) stands.are };
-  faults = λ more. fault_step (between before pending) _ word more turn step;
-  walk = λ more. fold_step (between before pending) _ word more step;
-}
-
-apart_leads : (s : Setting) (digits : Text) (apart : Bool) (rows before : List Row) (pending : Pending) → Stands rows before pending → IsInOrder (numbered s digits apart) → has_row (name_of s) rows ≡ false
-    → Leads before pending (dashed s ∷ digits ∷ []) (rows ++ row_for (numbered s digits apart) ∷ [])
-apart_leads s [] apart rows before pending stands order fresh = absurd (omega (arith, order.0.0))
-apart_leads s (x ∷ word) apart rows before pending stands order fresh =
-    let choice = numbered s (x ∷ word) apart in
-    let settled = settled_rows rules pending before in
-    let clear : has_row (name_of s) settled ≡ false = ap (has_row (name_of s)) stands.are ∙ fresh in
-    let digit : (x == 45) ≡ false = ne_eqb _ _ (λ e. omega (arith, digit_from_value x order.0.1.0)) in
-    let first = dashed_walk s before pending in
-    let second = value_walk s x word settled digit in
+word_leads : (choice : Choice) (rows before : List Row) (pending : Pending) → Stands rows before pending → has_row (option_of choice) rows ≡ false
+    → Leads before pending (word_of choice ∷ []) (rows ++ row_for choice ∷ [])
+word_leads choice rows before pending stands fresh =
+    let settled = settled_rows desk_rules pending before in
+    let clear : has_row (option_of choice) settled ≡ false = ap (has_row (option_of choice)) stands.are ∙ fresh in
     record {
-      after = settled;
-      waits = Some (name_of s, (x ∷ word) ∷ []);
-      stands = record {
-        settles = settles_as s (x ∷ word) settled ∙ value_passes s (x ∷ word) (taken s (x ∷ word) apart order) settled clear;
-        are = settled_as s (x ∷ word) settled ∙ put_used choice settled clear ∙ ap (λ r. r ++ row_for choice ∷ []) stands.are;
-      };
-      faults = λ more. fault_step (between before pending) _ (dashed s) ((x ∷ word) ∷ more) (dashed_turn s before pending stands.settles) first
-          ∙ fault_step (behind s settled) _ (x ∷ word) more (value_turn s x word settled digit) second;
-      walk = λ more. fold_step (between before pending) _ (dashed s) ((x ∷ word) ∷ more) first ∙ fold_step (behind s settled) _ (x ∷ word) more second;
+      after = used (rule_in choice) (values_for choice) settled;
+      waits = None;
+      stands = record { settles = refl; are = used_puts choice settled clear ∙ ap (λ r. r ++ row_for choice ∷ []) stands.are };
+      runs = λ more. run_word (between before pending) _ (word_of choice) more (word_passes choice before pending stands.settles (use_passes choice settled clear));
     }
 
--- the words of a choice in order put its row behind the others
+-- a choice of two words: the name of its setting, and the digits
+name_passes : (s : Setting) (rows : List Row) (pending : Pending) → settle_fault desk_rules false (held rows pending) ≡ []
+    → Passes (between rows pending) (dashed (name_of s)) (behind s (settled_rows desk_rules pending rows))
+unfolding clap_on_literals
+name_passes s rows pending settles = (grind arith, grind arith)
+
+digits_pass : (s : Setting) (d : ℕ) (ds : Text) (rows : List Row) → (d == 45) ≡ false → Passes (behind s rows) (d ∷ ds) (between rows (Some (name_of s, (d ∷ ds) ∷ [])))
+unfolding clap_on_literals
+digits_pass s d ds rows other = (grind arith, grind arith)
+
+-- which is used when it settles
+setting_settles : (s : Setting) (digits : Text) (apart : Bool) (rows : List Row) → has_row (name_of s) rows ≡ false
+    → Stands (rows ++ row_for (numbered s digits apart) ∷ []) rows (Some (name_of s, digits ∷ []))
+unfolding clap_on_literals
+setting_settles s digits apart rows fresh =
+    let choice = numbered s digits apart in
+    let fault : settle_fault desk_rules false (held rows (Some (name_of s, digits ∷ []))) ≡ use_fault false (rule_in choice) (digits ∷ []) rows = grind arith in
+    let put : settled_rows desk_rules (Some (name_of s, digits ∷ [])) rows ≡ used (rule_in choice) (digits ∷ []) rows = grind arith in
+    record { settles = fault ∙ use_passes choice rows fresh; are = put ∙ used_puts choice rows fresh }
+
+words_lead : (s : Setting) (digits : Text) (apart : Bool) (rows before : List Row) (pending : Pending) → Stands rows before pending → IsNumeral 10 digits → has_row (name_of s) rows ≡ false
+    → Leads before pending (dashed (name_of s) ∷ digits ∷ []) (rows ++ row_for (numbered s digits apart) ∷ [])
+words_lead s [] apart rows before pending stands numeral fresh = absurd (omega (arith, numeral.0))
+words_lead s (d ∷ ds) apart rows before pending stands numeral fresh =
+    let digit : (d == 45) ≡ false = ne_eqb _ _ (λ e. omega (arith, digit_from_value d numeral.1.0)) in
+    let settled = settled_rows desk_rules pending before in
+    record {
+      after = settled;
+      waits = Some (name_of s, (d ∷ ds) ∷ []);
+      stands = subst (λ r. Stands (rows ++ row_for (numbered s (d ∷ ds) apart) ∷ []) r (Some (name_of s, (d ∷ ds) ∷ []))) (sym stands.are) (setting_settles s (d ∷ ds) apart rows fresh);
+      runs = λ more. run_word (between before pending) _ (dashed (name_of s)) ((d ∷ ds) ∷ more) (name_passes s before pending stands.settles)
+          ∙ run_word (behind s settled) _ (d ∷ ds) more (digits_pass s d ds settled digit);
+    }
+
+-- the words of a choice put its row behind the others
 pub choice_leads : (choice : Choice) (rows before : List Row) (pending : Pending) → Stands rows before pending → IsInOrder choice → has_row (option_of choice) rows ≡ false
     → Leads before pending (words_of choice) (rows ++ row_for choice ∷ [])
-choice_leads (numbered s digits true) rows before pending stands order fresh = apart_leads s digits true rows before pending stands order fresh
-choice_leads (numbered s digits false) rows before pending stands order fresh =
-    let settled = settled_rows rules pending before in
-    let clear : has_row (name_of s) settled ≡ false = ap (has_row (name_of s)) stands.are ∙ fresh in
-    let turn = attached_turn s digits before pending stands.settles (value_passes s digits (taken s digits false order) settled clear) in
-    one_leads (numbered s digits false) (attached s digits) rows before _ pending stands turn (attached_walk s digits before pending) (put_used (numbered s digits false) settled clear)
-choice_leads progress rows before pending stands order fresh =
-    let settled = settled_rows rules pending before in
-    let clear : has_row progress_name settled ≡ false = ap (has_row progress_name) stands.are ∙ fresh in
-    one_leads progress flag rows before _ pending stands (flag_turn before pending stands.settles (flag_passes settled clear)) (flag_walk before pending) (put_used progress settled clear)
+choice_leads (numbered s digits true) rows before pending stands order fresh = words_lead s digits true rows before pending stands order.0 fresh
+choice_leads (numbered s digits false) rows before pending stands order fresh = word_leads (numbered s digits false) rows before pending stands fresh
+choice_leads progress rows before pending stands order fresh = word_leads progress rows before pending stands fresh

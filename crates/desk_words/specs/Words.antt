@@ -1,19 +1,19 @@
 -- What the command line may say, behind the program's name.
-use Rattle.std.specs.Prelude.{◌≡◌, ◌≢◌, ◌⊎◌, ◌≤◌, ℕ, Bool, false, true, List, [], ◌∷◌, ◌++◌, All, ⊤, Result, IfErr, IfOk, IsErrAnd, MatchResult, codes, if◌then◌else◌}
+use Rattle.std.specs.Prelude.{◌≡◌, ◌≢◌, ◌⊎◌, ◌≤◌, ℕ, Bool, true, List, [], ◌∷◌, ◌++◌, All, ⊤, Result, IfErr, IfOk, IsErrAnd, MatchResult, codes, if◌then◌else◌}
 use Rattle.std.specs.IoError.{error_kind}
 use Rattle.std.specs.Str.Parse.{IsNumeral, digits_value}
 use Rattle.std.specs.declared.io.Error.{Error}
 use Rattle.std.specs.declared.io.ErrorKind.TheVariants.{OutOfMemory}
-use Rattle.desk_words.specs.Command.{least_of, most_of, name_of, progress_name}
-use Rattle.desk_words.specs.Fault.{IsHelp, IsRefusal}
+use Rattle.desk_words.specs.Fault.{IsHelp, IsRefusal, IsVersion}
+use Rattle.desk_words.specs.Setting.{least_of, most_of, name_of, progress_name, usual_options}
 use Rattle.desk_words.specs.declared.settings.Options.{Options}
 use Rattle.desk_words.specs.declared.settings.Setting.{Setting}
 use Rattle.desk_words.specs.declared.settings.Setting.TheVariants.{Workers, Facts, Squares}
 use Rattle.desk_words.specs.declared.words.OptionFault.{OptionFault}
 use Rattle.desk_words.specs.declared.words.OptionFault.TheVariants.{NoMemory}
 
--- a choice: of a number by a setting's option, with its digits, and whether they are a word of their
--- own; or of progress
+-- a choice: of a number by a setting's option, with its digits, and whether they are a word of
+-- their own; or of progress
 pub data Choice : Type 0 where
   numbered : Setting → List ℕ → Bool → Choice
   progress : Choice
@@ -67,27 +67,24 @@ with_choice (numbered setting digits apart) options =
     with_number setting (digits_value 10 digits) options
 with_choice progress options = record options { progress = true }
 
--- what the choices come to: where nothing is chosen, 2 workers, 64 facts, 4194304 squares and no
--- progress
+-- what the choices come to
 abbrev pub chosen_by : List Choice → Options
-chosen_by [] = record { workers = 2; facts = 64; squares = 4194304; progress = false }
+chosen_by [] = usual_options
 chosen_by (choice ∷ choices) = with_choice choice (chosen_by choices)
 
 -- a word for help is asked with, and no other
 abbrev pub AsksForHelp : List (List ℕ) → Type 0
 AsksForHelp words = (words ≡ codes "-h" ∷ []) ⊎ (words ≡ codes "--help" ∷ [])
 
+-- a word for the version is asked with, and no other
+abbrev pub AsksForVersion : List (List ℕ) → Type 0
+AsksForVersion words = (words ≡ codes "-V" ∷ []) ⊎ (words ≡ codes "--version" ∷ [])
+
 -- the first word is no option: it begins with no dash
 abbrev pub BeginsPlain : List (List ℕ) → Type 0
 BeginsPlain [] = ⊥
 BeginsPlain ([] ∷ words) = ⊤
 BeginsPlain ((b ∷ word) ∷ words) = b ≢ 45
-
--- each number is in its range
-pub record IsInRange (options : Options) : Type 0 where
-  pub workers : (1 ≤ options.workers) × (options.workers ≤ 8)
-  pub facts : (1 ≤ options.facts) × (options.facts ≤ 4096)
-  pub squares : (64 ≤ options.squares) × (options.squares ≤ 16777216)
 
 -- what the words come to
 pub record ReadsWords (words : List (List ℕ)) (result : Result Options OptionFault) : Type 0 where
@@ -99,6 +96,8 @@ pub record ReadsWords (words : List (List ℕ)) (result : Result Options OptionF
   pub plain : BeginsPlain words → IsErrAnd result IsRefusal
   -- help is answered where it is asked for
   pub help : AsksForHelp words → IsErrAnd result IsHelp
+  -- and the version likewise
+  pub version : AsksForVersion words → IsErrAnd result IsVersion
 
 -- what the words come to that a program was started with: one that is no UTF-8 is refused
 abbrev pub Checks : {V : Type 0} → (V → List (List ℕ)) → Result V Error → Result Options OptionFault

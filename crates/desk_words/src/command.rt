@@ -1,16 +1,18 @@
 //! The command that the words belong to, as `clap` knows it.
-ghost use Rattle.std.specs.Prelude.{◌≡◌, IfOk, IsErrAnd, MatchResult, List, map};
-ghost use Rattle.clap.specs.Words.{FailsBy, app_of, found_of, kind_of, one_text};
-ghost use Rattle.desk_words.specs.Words.{AsksForHelp, AsksWith, BeginsPlain, Choice, chosen_by};
-ghost use Rattle.desk_words.specs.Command.{AlwaysGives, Chooses, GivesSettings, HasNumber, IsHelpOrMemory};
-ghost use Rattle.desk_words.specs.Command.{IsNumberIn, IsOptionOf, IsProgress, IsUnknownOrMemory};
-ghost use Rattle.desk_words.specs.Command.{Says, desk, faults, progress_name};
+ghost use Rattle.std.specs.Prelude.{◌≡◌, ℕ, IfOk, MatchResult, map};
+ghost use Rattle.clap.specs.Words.{FailsBy, app_of, fault_of, first_value, found_of, kind_of};
+ghost use Rattle.clap.specs.Words.{matches_of, one_text, rows_of};
+ghost use Rattle.desk_words.specs.Command.{Chooses, IsOption, IsRefusedBy, ReadsNumber, Says, desk};
+ghost use Rattle.desk_words.specs.Command.{progress_rule, setting_rule};
+ghost use Rattle.desk_words.specs.Setting.{least_of, most_of, name_of, number_of, progress_name};
+ghost use Rattle.desk_words.specs.Setting.{usual_options};
 
-use crate::help::COMMANDS;
+use crate::bounded::Bounded;
 use crate::settings::{Options, Setting};
-use clap::builder::ValueParser;
+use crate::version::VERSION;
 use clap::error::ErrorKind;
 use clap::{Arg, ArgAction, ArgMatches, Command, Error};
+use script_help::command_list;
 use std::alloc::{AllocError, Global};
 use std::convert::AsStr;
 
@@ -25,21 +27,18 @@ const PROGRESS_HELP: &str =
 
 // The option of a setting.
 fn option(alloc: Global, setting: Setting) -> Arg<'static>
-    ensures { IsOptionOf setting result }
+    ensures { IsOption (setting_rule setting) result }
 {
-    let (least, most) = setting.range();
     Arg::new(alloc, setting.name())
         .long(setting.name())
         .value_name("N")
         .action(ArgAction::Set)
-        .value_parser(ValueParser::unsigned(least, most))
-        .default_value(setting.usual())
         .help(setting.help())
 }
 
 // The option for progress.
 fn progress_option(alloc: Global) -> Arg<'static>
-    ensures { IsProgress result }
+    ensures { IsOption progress_rule result }
 {
     Arg::new(alloc, PROGRESS)
         .long(PROGRESS)
@@ -48,12 +47,12 @@ fn progress_option(alloc: Global) -> Arg<'static>
 }
 
 fn command<'a>(alloc: Global) -> Result<Command<'a>, AllocError>
-    ensures app { IfOk result (λ command. app_of command ≡ desk) }
-    ensures gives { IfOk result AlwaysGives }
+    ensures { IfOk result (λ command. app_of command ≡ desk) }
 {
     Command::new(alloc, "desk")
+        .version(VERSION)
         .about(ABOUT)
-        .after_help(COMMANDS)
+        .after_help(command_list())
         .no_binary_name(true)
         .arg(option(alloc, Setting::Workers))?
         .arg(option(alloc, Setting::Facts))?
@@ -63,20 +62,47 @@ fn command<'a>(alloc: Global) -> Result<Command<'a>, AllocError>
 
 // What `clap` finds in the words.
 fn parsed<'a, S: AsStr>(alloc: Global, words: &'a [S]) -> Result<ArgMatches<'a>, Error>
-    ensures faults { FailsBy (faults (map S.text words.now)) result }
-    ensures gives { IfOk result (λ m. GivesSettings (map S.text words.now) (found_of m)) }
+    ensures faults { FailsBy (fault_of desk (map S.text words.now)) result }
+    ensures rows { IfOk result
+        (λ m. rows_of (found_of m) ≡ matches_of desk (map S.text words.now)) }
 {
     command(alloc)?.try_get_matches_from(words)
 }
 
-// The number of a setting.
-fn number(matches: &ArgMatches<'_>, setting: Setting) -> u32
-    requires { HasNumber setting (found_of matches.now) }
-    ensures { IsNumberIn setting (found_of matches.now) result }
+// Why a text is refused as the number of a setting.
+fn no_number(
+    alloc: Global,
+    setting: Setting,
+    text: &str,
+    least: u32,
+    most: u32,
+) -> Result<Error, AllocError>
+    ensures { IfOk result (λ error. kind_of error ≡ ErrorKind.ValueValidation) }
 {
-    match matches.get_one::<u32>(setting.name()) {
-        Some(number) => number,
-        None => unreachable!("each option has a number"),
+    let name = setting.name();
+    let reason = format!(in alloc;
+        "invalid value '{text}' for '--{name} <N>': it takes a number from {least} to {most}"
+    )?;
+    command(alloc)?.error(ErrorKind::ValueValidation, reason.as_str())
+}
+
+// The number of a setting: that of the words, or else the usual one.
+fn number<const LEAST: u32, const MOST: u32>(
+    alloc: Global,
+    matches: &ArgMatches<'_>,
+    setting: Setting,
+    usual: Bounded<LEAST, MOST>,
+) -> Result<Bounded<LEAST, MOST>, Error>
+    requires range { (LEAST ≡ least_of setting) × (MOST ≡ most_of setting) }
+    requires usual { usual ≡ number_of setting usual_options }
+    ensures { ReadsNumber setting (first_value (found_of matches.now) (name_of setting)) result }
+{
+    let Some(text) = matches.get_str(setting.name()) else {
+        return Ok(usual);
+    };
+    match text.parse() {
+        Ok(number) => Ok(number),
+        Err(_) => Err(no_number(alloc, setting, text, LEAST, MOST)?),
     }
 }
 
@@ -89,22 +115,18 @@ fn asks_for_progress(matches: &ArgMatches<'_>) -> bool
 
 /// Reads the words behind the program's name.
 ///
-/// The options are the settings, progress and help. An error is a request for help, a refused word with the
-/// text for the user, or 'out of memory'.
+/// The options are the settings, progress, help and the version. An error is a request for help or the
+/// version, a refused word with the text for the user, or 'out of memory'.
 pub(crate) fn read<'a, S: AsStr>(alloc: Global, words: &'a [S]) -> Result<Options, Error>
-    ensures faults { FailsBy (faults (map S.text words.now)) result }
-    ensures chosen { IfOk result (Chooses (map S.text words.now)) }
-    ensures given { (choices : List Choice) → AsksWith choices (map S.text words.now) → MatchResult result
-        (λ options. options ≡ chosen_by choices) (λ error. kind_of error ≡ ErrorKind.OutOfMemory) }
-    ensures plain { BeginsPlain (map S.text words.now) → IsErrAnd result IsUnknownOrMemory }
-    ensures help { AsksForHelp (map S.text words.now) → IsErrAnd result IsHelpOrMemory }
+    ensures { MatchResult result (Chooses (map S.text words.now))
+        (IsRefusedBy (map S.text words.now)) }
 {
     let matches = parsed(alloc, words)?;
-    let workers = number(&matches, Setting::Workers);
+    let usual = Options::default();
     Ok(Options {
-        workers: workers as u8,
-        facts: number(&matches, Setting::Facts),
-        squares: number(&matches, Setting::Squares),
+        workers: number(alloc, &matches, Setting::Workers, usual.workers)?,
+        facts: number(alloc, &matches, Setting::Facts, usual.facts)?,
+        squares: number(alloc, &matches, Setting::Squares, usual.squares)?,
         progress: asks_for_progress(&matches),
     })
 }

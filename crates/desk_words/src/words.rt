@@ -1,11 +1,13 @@
 //! What the words of the command line come to.
-ghost use Rattle.std.specs.Prelude.{◌≡◌, ◌≢◌, [], IfErr, IfOk, OnOk, drop, map, string_bytes};
+ghost use Rattle.std.specs.Prelude.{◌≡◌, IfErr, IfOk, drop, map, string_bytes};
 ghost use Rattle.clap.specs.Words.{kind_of};
-ghost use Rattle.desk_words.specs.Words.{Checks, IsInRange, ReadsWords};
-ghost use Rattle.desk_words.specs.Command.{Chooses, faults};
+ghost use Rattle.desk_words.specs.Words.{Checks, ReadsWords};
+ghost use Rattle.desk_words.specs.Command.{Chooses, ChoosesSome};
 ghost use Rattle.desk_words.specs.Fault.{IsHelp, IsRefusal};
+ghost use Rattle.desk_words.specs.Told.{IsToldAs};
 
 use crate::command::{no_text, read};
+use crate::help::STATUSES_AND_EXAMPLE;
 use crate::settings::Options;
 use clap::Error;
 use clap::error::ErrorKind;
@@ -19,18 +21,27 @@ use std::{env, io};
 pub enum OptionFault {
     /// Help was asked for: its text.
     Help(String),
+    /// The version was asked for: the line that says it.
+    Version(String),
     /// The words are refused: the text for the user.
     Refused(String),
     /// There was no memory for the words, or for a text about them.
     NoMemory,
 }
 
+// The help that `clap` says, which ends with the commands of a script, and what stands behind them.
+fn help(alloc: Global, said: &str) -> OptionFault
+    ensures { IsHelp result }
+{
+    match format!(in alloc; "{said}\n{STATUSES_AND_EXAMPLE}") {
+        Ok(text) => OptionFault::Help(text),
+        Err(_) => OptionFault::NoMemory,
+    }
+}
+
 // What an error of `clap` says to the user.
 fn fault_of(alloc: Global, error: &Error) -> OptionFault
-    ensures memory { kind_of error.now ≡ ErrorKind.OutOfMemory → result ≡ OptionFault.NoMemory }
-    ensures help { kind_of error.now ≡ ErrorKind.DisplayHelp → IsHelp result }
-    ensures refused { kind_of error.now ≢ ErrorKind.OutOfMemory
-        → kind_of error.now ≢ ErrorKind.DisplayHelp → IsRefusal result }
+    ensures { IsToldAs (kind_of error.now) result }
 {
     if error.kind() == ErrorKind::OutOfMemory {
         return OptionFault::NoMemory;
@@ -38,10 +49,10 @@ fn fault_of(alloc: Global, error: &Error) -> OptionFault
     let Ok(text) = format!(in alloc; "{error}") else {
         return OptionFault::NoMemory;
     };
-    if error.kind() == ErrorKind::DisplayHelp {
-        OptionFault::Help(text)
-    } else {
-        OptionFault::Refused(text)
+    match error.kind() {
+        ErrorKind::DisplayHelp => help(alloc, text.as_str()),
+        ErrorKind::DisplayVersion => OptionFault::Version(text),
+        _ => OptionFault::Refused(text),
     }
 }
 
@@ -49,8 +60,7 @@ fn fault_of(alloc: Global, error: &Error) -> OptionFault
 pub fn options<S: AsStr>(alloc: Global, words: &[S]) -> Result<Options, OptionFault>
     ensures reads { ReadsWords (map S.text words.now) result }
     ensures chosen { IfOk result (Chooses (map S.text words.now)) }
-    ensures taken { OnOk result (faults (map S.text words.now) ≡ []) }
-    ensures refused { faults (map S.text words.now) ≡ []
+    ensures refused { ChoosesSome (map S.text words.now)
         → IfErr result (λ fault. fault ≡ OptionFault.NoMemory) }
 {
     match read(alloc, words) {
@@ -87,8 +97,7 @@ fn behind_name(words: &[String]) -> &[String]
 /// Reads the words that a program was started with, its name first, or refuses them where one is no
 /// UTF-8.
 pub fn check_words(alloc: Global, given: &io::Result<Vec<String>>) -> Result<Options, OptionFault>
-    ensures checks { Checks (λ words. map string_bytes (drop 1 words.items)) given.now result }
-    ensures range { IfOk result IsInRange }
+    ensures { Checks (λ words. map string_bytes (drop 1 words.items)) given.now result }
 {
     match given {
         Ok(words) => options(alloc, behind_name(words.as_slice())),

@@ -37,10 +37,12 @@ impl Env for Started {
 #[derive(Clone, Copy, Debug, PartialEq, Eq)]
 enum Verdict {
     // They are read, and choose so many workers, facts and squares.
-    Chosen(u8, u32, u32),
+    Chosen(u32, u32, u32),
     // So many, and progress.
-    Watched(u8, u32, u32),
+    Watched(u32, u32, u32),
     Help,
+    // The line that says which version this is.
+    Version,
     // An unknown word.
     Unknown,
     // A word with a value that it doesn't take.
@@ -63,7 +65,9 @@ enum Verdict {
 const END: &str = "\n\nFor more information, try '--help'.\n";
 
 const OPTIONS: &str =
-    "\n\nUsage: desk [OPTIONS]\n\nOptions:\n      --workers <N>  How many workers compute, from 1 to 8 [default: 2]\n      --facts <N>    How many results of steps a desk may keep, with their patterns, from 1 to 4096 [default: 64]\n      --squares <N>  How many squares the engine of a worker may hold, from 64 to 16777216. A square takes about 48 bytes: 4194304 take about 200 MB [default: 4194304]\n      --progress     While a settling takes long, shows on standard error how far it is; so it is without the option where that is a terminal\n  -h, --help         Print help\n\nCommands of a script,";
+    "\n\nUsage: desk [OPTIONS]\n\nOptions:\n      --workers <N>  How many workers compute, from 1 to 8 [default: 2]\n      --facts <N>    How many results of steps a desk may keep, with their patterns, from 1 to 4096 [default: 64]\n      --squares <N>  How many squares the engine of a worker may hold, from 64 to 16777216. A square takes about 48 bytes: 4194304 take about 200 MB [default: 4194304]\n      --progress     While a settling takes long, shows on standard error how far it is; so it is without the option where that is a terminal\n  -h, --help         Print help\n  -V, --version      Print version\n\nCommands of a script,";
+
+const VERSION: &str = "desk 1.0.0 (proved)\n";
 
 fn is_help(text: &str) -> bool {
     text.contains(OPTIONS)
@@ -77,7 +81,7 @@ fn refusal(text: &str) -> Verdict {
         Verdict::Other
     } else if text.starts_with("error: unexpected argument '") {
         Verdict::Unknown
-    } else if text.starts_with("error: unexpected value 'all' for '") {
+    } else if text.starts_with("error: unexpected value 'all' for '--") {
         Verdict::Value
     } else if text.starts_with("error: invalid value '") {
         Verdict::Number
@@ -102,9 +106,14 @@ fn refusal(text: &str) -> Verdict {
 
 fn said(answer: &Result<Options, OptionFault>) -> Verdict {
     match answer {
-        Ok(read) if read.progress => Verdict::Watched(read.workers, read.facts, read.squares),
-        Ok(read) => Verdict::Chosen(read.workers, read.facts, read.squares),
+        Ok(read) if read.progress => Verdict::Watched(
+            read.workers.get(),
+            read.facts.get(),
+            read.squares.get(),
+        ),
+        Ok(read) => Verdict::Chosen(read.workers.get(), read.facts.get(), read.squares.get()),
         Err(OptionFault::Help(text)) if is_help(text.as_str()) => Verdict::Help,
+        Err(OptionFault::Version(text)) if text.as_str() == VERSION => Verdict::Version,
         Err(OptionFault::Refused(text)) => refusal(text.as_str()),
         Err(_) => Verdict::Other,
     }
@@ -155,8 +164,44 @@ const READ: &[Row] = &[
         said: Verdict::Unknown,
     },
     Row {
+        words: &["-V"],
+        said: Verdict::Version,
+    },
+    Row {
         words: &["--version"],
+        said: Verdict::Version,
+    },
+    Row {
+        words: &["-V", "work"],
+        said: Verdict::Version,
+    },
+    Row {
+        words: &["work", "--version"],
         said: Verdict::Unknown,
+    },
+    Row {
+        words: &["-v"],
+        said: Verdict::Unknown,
+    },
+    Row {
+        words: &["version"],
+        said: Verdict::Unknown,
+    },
+    Row {
+        words: &["--version=all"],
+        said: Verdict::Value,
+    },
+    Row {
+        words: &["--version", "--help"],
+        said: Verdict::Version,
+    },
+    Row {
+        words: &["--help", "--version"],
+        said: Verdict::Help,
+    },
+    Row {
+        words: &["-hV"],
+        said: Verdict::Help,
     },
     Row {
         words: &["--worker=2"],
@@ -282,6 +327,26 @@ const READ: &[Row] = &[
         words: &["--squares", "64", "-h"],
         said: Verdict::Help,
     },
+    Row {
+        words: &["--workers=3", "--progress", "--version"],
+        said: Verdict::Version,
+    },
+    Row {
+        words: &["--squares", "63", "--version"],
+        said: Verdict::Version,
+    },
+    Row {
+        words: &["--workers=9", "-h"],
+        said: Verdict::Help,
+    },
+    Row {
+        words: &["--workers=9", "--facts", "0", "work"],
+        said: Verdict::Unknown,
+    },
+    Row {
+        words: &["--workers", "--version"],
+        said: Verdict::Missing,
+    },
 ];
 
 fn reads(rt: &impl Abort, alloc: Global, row: &Row) {
@@ -306,6 +371,7 @@ fn words_come_from_the_start(rt: HostRuntime) {
     let alloc = rt.alloc();
     starts(&rt, alloc, &[b"desk"], DEFAULT);
     starts(&rt, alloc, &[b"desk", b"-h"], Verdict::Help);
+    starts(&rt, alloc, &[b"./desk", b"--version"], Verdict::Version);
     starts(&rt, alloc, &[b"desk", b"work"], Verdict::Unknown);
     let least: &[&[u8]] = &[b"desk", b"--squares", b"64"];
     starts(&rt, alloc, least, Verdict::Chosen(2, 64, 64));

@@ -49,5 +49,8 @@ fn has_repeats(interventions: &[Intervention]) -> bool
 fn asks_to_repeat(edit: &Edit) -> bool
     ensures { result ≡ asks_to_repeat (asked_of edit.now) }
 {
-    matches!(edit, Edit::InsertRepeat { .. } | Edit::ChangeRepeat { .. })
+    match edit {
+        Edit::Insert { acts, .. } | Edit::Change { acts, .. } => acts.repeats(),
+        _ => false,
+    }
 }

@@ -1,7 +1,7 @@
 //! The marks of a document after each of some edits.
 use desk_events::Mark;
 use document_marks::{marks_at_most_after, marks_of, rank_of};
-use schedule::{Document, Edit, Listing, View};
+use schedule::{CellSet, Document, Edit, Listing, View};
 use std::alloc::Global;
 use std::process::Abort;
 
@@ -76,6 +76,10 @@ const CASES: &[Case] = &[
     },
 ];
 
+fn no_cells(alloc: Global) -> Listing<CellSet> {
+    Listing::from_vec(Vec::new(alloc))
+}
+
 fn edit_of(alloc: Global, asked: Asked) -> Edit {
     match asked {
         Asked::Fork { parent, generation } => Edit::AddBranch { parent, generation },
@@ -84,18 +88,12 @@ fn edit_of(alloc: Global, asked: Asked) -> Edit {
             generation,
             view: View::Counts,
         },
-        Asked::Once { branch, generation } => Edit::InsertIntervention {
-            branch,
-            generation,
-            cells: Listing::from_vec(Vec::new(alloc)),
-        },
-        Asked::Repeat { branch, times } => Edit::InsertRepeat {
-            branch,
-            first: times.0,
-            every: times.1,
-            last: times.2,
-            cells: Listing::from_vec(Vec::new(alloc)),
-        },
+        Asked::Once { branch, generation } => {
+            Edit::insert_intervention(branch, generation, no_cells(alloc))
+        }
+        Asked::Repeat { branch, times } => {
+            Edit::insert_repeat(branch, times.0, times.1, times.2, no_cells(alloc))
+        }
     }
 }
 

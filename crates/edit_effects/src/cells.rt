@@ -50,23 +50,8 @@ fn own_cells_after<'a>(edit: &'a Edit, intervention: &'a Intervention, mark: Mar
     ensures { result.now ≡ own_cells_after (asked_of edit.now) intervention.now mark }
 {
     match edit {
-        Edit::ChangeIntervention {
-            id,
-            generation,
-            cells,
-        } if *id == intervention.id => {
-            let acts = Acts::once(*generation);
-            cells_if_at(intervention.branch, acts, cells, mark)
-        }
-        Edit::ChangeRepeat {
-            id,
-            first,
-            every,
-            last,
-            cells,
-        } if *id == intervention.id => {
-            let acts = Acts::every(*first, *every, *last);
-            cells_if_at(intervention.branch, acts, cells, mark)
+        Edit::Change { id, acts, cells } if *id == intervention.id => {
+            cells_if_at(intervention.branch, *acts, cells, mark)
         }
         Edit::RemoveIntervention { id } if *id == intervention.id => &[],
         _ => cells_if_at(
@@ -83,21 +68,11 @@ fn inserted_cells(edit: &Edit, mark: Mark) -> &[CellSet]
     ensures { result.now ≡ inserted_cells (asked_of edit.now) mark }
 {
     match edit {
-        Edit::InsertIntervention {
+        Edit::Insert {
             branch,
-            generation,
+            acts,
             cells,
-        } => cells_if_at(*branch, Acts::once(*generation), cells, mark),
-        Edit::InsertRepeat {
-            branch,
-            first,
-            every,
-            last,
-            cells,
-        } => {
-            let acts = Acts::every(*first, *every, *last);
-            cells_if_at(*branch, acts, cells, mark)
-        }
+        } => cells_if_at(*branch, *acts, cells, mark),
         _ => &[],
     }
 }

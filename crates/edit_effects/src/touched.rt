@@ -24,28 +24,8 @@ pub fn touched_by(document: &Document, edit: &Edit) -> Option<Touched>
     ensures { result ≡ touched_by document.now (asked_of edit.now) }
 {
     match edit {
-        Edit::InsertIntervention {
-            branch,
-            generation,
-            ..
-        } => Some(added(*branch, Acts::once(*generation))),
-        Edit::InsertRepeat {
-            branch,
-            first,
-            every,
-            last,
-            ..
-        } => Some(added(*branch, Acts::every(*first, *every, *last))),
-        Edit::ChangeIntervention { id, generation, .. } => {
-            moved(document, *id, Acts::once(*generation))
-        }
-        Edit::ChangeRepeat {
-            id,
-            first,
-            every,
-            last,
-            ..
-        } => moved(document, *id, Acts::every(*first, *every, *last)),
+        Edit::Insert { branch, acts, .. } => Some(added(*branch, *acts)),
+        Edit::Change { id, acts, .. } => moved(document, *id, *acts),
         Edit::RemoveIntervention { id } => removed(document, *id),
         _ => None,
     }

@@ -32,11 +32,7 @@ fn lays(rt: &impl Abort, alloc: Global, document: &Document, edit: &Edit, mark: 
 }
 
 fn check_case(rt: &impl Abort, alloc: Global, document: &Document, case: &Case) {
-    let edit = Edit::ChangeIntervention {
-        id: 1,
-        generation: case.0,
-        cells: cell(rt, alloc, case.1, case.2),
-    };
+    let edit = Edit::change_intervention(1, case.0, cell(rt, alloc, case.1, case.2));
     let found = lays(rt, alloc, document, &edit, Mark::at(0, case.3));
     assert!(rt; found == case.4, "{case:?}");
     // It is felt from 4 on, where the intervention acts first, before the edit.
@@ -74,11 +70,7 @@ fn check_kept(rt: &impl Abort, document: &Document) {
 #[test]
 fn changes_of_an_intervention(rt: HostRuntime) {
     let mut document = Document::opening(rt.alloc(), 0).expect(&rt, "memory");
-    let edit = Edit::InsertIntervention {
-        branch: 0,
-        generation: 4,
-        cells: cell(&rt, rt.alloc(), 0, 1),
-    };
+    let edit = Edit::insert_intervention(0, 4, cell(&rt, rt.alloc(), 0, 1));
     document.apply(&edit).expect(&rt, "an edit that fits");
     for case in CASES {
         check_case(&rt, rt.alloc(), &document, case);

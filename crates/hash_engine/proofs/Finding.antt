@@ -1,14 +1,12 @@
 -- What a search puts to the rule, keeps and finds, step by step.
-use Rattle.hash_engine.proofs.Names.{Adds, AddsOf, All, All-cons, All-nil, AreAmong, AreKnown, AreWays, Asks, CanBeAsked, CanSeek, Contains, FindsForAll, GivesOf, Grows, Grows-then, HasPut, HasWays, IsCounted, IsFound, IsMade, IsNumber}
+use Rattle.hash_engine.proofs.Names.{Adds, AddsOf, All, All-cons, All-nil, AreAmong, AreKnown, AreWays, Asks, Contains, FindsForAll, GivesOf, Grows, Grows-then, HasPut, HasWays, IsCounted, IsFound, IsMade, IsNumber}
 use Rattle.hash_engine.proofs.Names.{IsNumber-grows, IsPut, IsRemembered, IsResult, IsRightMemo, IsSameRule, KeepsOnWay, KeepsRows, List, Makes, Makes-result, Memo, Puts, Puts-itself, Puts-last, Puts-none, Puts-weaker, PutsOnly, Square}
-use Rattle.hash_engine.proofs.Names.{StandForAll, StandsFor, StaysRight, Table, [], ap, append-nil, arith, cases_eq, cells_of, first_number, get_or, get_or-map, inl, inr, is_put, later, length, length-map, level_of, map, middle, number_of}
+use Rattle.hash_engine.proofs.Names.{StandForAll, StandsFor, StaysRight, Table, [], ap, append-nil, arith, cases_eq, first_number, get_or, get_or-map, inl, inr, is_put, later, length, length-map, map, middle}
 use Rattle.hash_engine.proofs.Names.{Grows-same, one, one_level, picked, refl, result, result-later, result-none, sought, square_in, square_in-grows, subst, suc, sym, ℕ, ◌*◌, ◌+◌, ◌-◌, ◌<◌, ◌^◌, ◌∙◌, ◌∷◌, ◌≡◌, ◌≢◌, ◌≤◌}
-use Rattle.square_table.specs.declared.square.Square as handles
-use Rattle.hash_life.proofs.Shared.Below as states
 use Rattle.hash_engine.specs.Asked.{places_put}
-use Rattle.hash_engine.proofs.Standing.{above, within, below_some, StandsFor-itself, StandsFor-grows}
-use Rattle.hash_engine.proofs.Picked.{picked-same, picked-more}
-use Rattle.hash_engine.proofs.Shared.{IsRight-grows, is_put-none, is_put-two, is_put-more, is_put-agrees, count-grows, others}
+use Rattle.hash_engine.proofs.Standing.{above, within, StandsFor-itself, StandsFor-grows}
+use Rattle.hash_engine.proofs.Shared.Picked.{picked-same, picked-more}
+use Rattle.hash_engine.proofs.Shared.Memos.{IsRight-grows, is_put-none, is_put-two, is_put-more, is_put-agrees, count-grows, others}
 
 -- in a table that grew the same squares were put
 pub IsPut-grows : (t u : Table) (full : List ℕ) (s : Square) → Grows t u → IsPut t.rows full s → IsPut u.rows full s
@@ -225,14 +223,6 @@ pub one_result : (next : List ℕ → ℕ) (k generations : ℕ) (s : Square) {r
     (all : List Square) → Makes next k generations s (Contains all) → All (Contains all) (r ∷ [])
 one_result next k generations s {r} is all way =
     All-cons (Contains all) r [] (subst (Contains all) (sym is) (Makes-result next k generations s (Contains all) way)) (All-nil (Contains all))
-
--- that of the root of a search can be sought
-pub CanSeek-root : {next : List ℕ → ℕ} {c : ℕ} {t : Table} {memo : Memo} {root : handles.Square} {generations level n : ℕ} → CanBeAsked c t root →
-    states.Keeps c next → level ≡ level_of root → n ≡ number_of root → IsRightMemo next t memo → CanSeek next c t memo (level - 2) generations n
-CanSeek-root {next} {c} {t} {memo} {root} {generations} {level} {n} asked keeps is same right =
-    let below = states.Puts-below c next keeps (below_some c (cells_of t root) asked.below) (level - 2) generations (cells_of t root) asked.below in
-    let two : level_of root ≡ suc (suc (level - 2)) = omega (arith, asked.level.0, is) in
-    grind (arith, asked, is, same, two, below, right)
 
 -- for no generation it is the middle
 pub Keeps-middle : (k n : ℕ) {next : List ℕ → ℕ} {c ahead : ℕ} {t u : Table} {memo : Memo} → ahead ≡ 0 → IsRightMemo next t memo →

@@ -1,10 +1,7 @@
 pub mod Standing
-pub mod Picked
 pub mod Shared
 pub mod Finding
 pub mod Making
 pub mod Computing
-pub mod Ending
 pub mod ByBlocks
-pub mod Blocks
 pub mod Names

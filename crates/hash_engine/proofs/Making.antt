@@ -1,6 +1,6 @@
 -- What is made on the ways to results is there.
 use Rattle.hash_engine.proofs.Names.{GivesOf, Grows, HasMade, IsMade, IsMade-grows, IsNumber, IsNumber-grows, IsRemembered, IsRightMemo, KeepsRows, List, Makes, Makes-last, Makes-none, Makes-weaker, MakesFor, Memo, Square, StandsFor, Table}
-use Rattle.hash_engine.proofs.Names.{later, middle, result-later, result-none, sought, square_in-grows, subst, suc, sym, ℕ, ◌-◌, ◌<◌, ◌≡◌}
+use Rattle.hash_engine.proofs.Names.{later, middle, result-later, result-none, sought, square_in-grows, subst, suc, sym, ℕ, ◌<◌, ◌≡◌}
 use Rattle.hash_engine.proofs.Standing.{StandsFor-itself, StandsFor-grows}
 use Rattle.hash_engine.proofs.Finding.{HasWays-grows, HasWays-noted, made_of}
 

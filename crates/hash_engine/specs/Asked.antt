@@ -21,10 +21,6 @@ unfoldable pub picked : (ℕ → Bool) → ℕ → List ℕ
 picked test zero = []
 picked test (suc i) = cond (test i) (i ∷ picked test i) (picked test i)
 
--- the places of the squares of 4 by 4 cells
-unfoldable pub places_of_four : List (List ℕ) → List ℕ
-places_of_four rows = picked (λ i. is_four rows (first_number + i)) (length rows)
-
 -- the places of the squares that were put to the rule
 unfoldable pub places_put : Table → List ℕ
 places_put t = picked (is_put t.rows t.notes) (length t.rows)

@@ -3,29 +3,16 @@
 ghost use Rattle.std.specs.Prelude.{◌≡◌, IfOk, OnOk, Err};
 ghost use Rattle.square_table.specs.Made.{IsFull};
 ghost use Rattle.hash_engine.specs.Adding.{GrowsOnWay};
-ghost use Rattle.hash_engine.specs.Found.{KeepsRule, CanBeAsked, CanSearch, IsEnd, IsLater, Finds, AsksOnceFor};
+ghost use Rattle.hash_engine.specs.Found.{KeepsRule, CanSearch, IsEnd, IsLater};
 ghost use Rattle.hash_engine.specs.Memo.{IsRightMemo};
 ghost use Rattle.hash_engine.specs.Search.{CanSeek, CanSeekAll, CanCompute, CanPut, KeepsFor, KeepsForAll, FindsFor, FindsForAll, AsksFor, AsksForAll, MakesFor, MakesForAll};
 
-use crate::counts::count_squares;
 use crate::eight::eight;
 use crate::fault::ResultFault;
 use crate::memo::{Memo, full};
 use crate::parts;
 use square_table::{Square, SquareTable, TableFault};
-use std::alloc::Global;
 use worlds::{Ask, Stop};
-
-/// A result.
-#[derive(Clone, Copy, Debug)]
-pub struct Found<'a> {
-    /// The square.
-    pub square: Square<'a>,
-    /// How many squares of 4 by 4 cells the table has.
-    pub fours: u32,
-    /// How many of these were put to the rule.
-    pub base: u32,
-}
 
 // The result of a square of level 2, by the rule, which isn't asked for it again.
 #[tactic(auto, using(crate::proofs::Standing::above, crate::proofs::Standing::within))]
@@ -54,12 +41,14 @@ fn put<Q: Ask>(
     Ok(made)
 }
 
-// The result of a square of level k + 2, remembered or not. Most are, so that the look-up stands in
-// the loop that asks for several, and what it leads to doesn't.
+/// The result of a square of level k + 2, remembered or not. This is for a search that counts: over a
+/// memo that `search` never had, each square on the way is made, and none is put to the rule twice.
+// Most are remembered, so that the look-up stands in the loop that asks for several, and what it
+// leads to doesn't.
 #[tactic(auto, using(crate::proofs::Standing::above, crate::proofs::Standing::within))]
 #[cycle(forward)]
 #[inline(always)]
-fn forward<Q: Ask, S: Stop>(
+pub fn forward<Q: Ask, S: Stop>(
     table: &mut SquareTable<'_>,
     memo: &mut Memo,
     rule: &mut Q,
@@ -167,8 +156,8 @@ fn all_forward<Q: Ask, S: Stop>(
     Ok(())
 }
 
-/// The result of a square of level k + 2, as `result` finds it, by what is remembered of the
-/// table's squares under the rule.
+/// The result of a square of level k + 2, which is the square in its middle so many generations
+/// later, by what is remembered of the table's squares under the rule.
 ///
 /// What is found on the way is remembered, also where the search is refused or stopped. From then on
 /// no square is made that isn't needed for what is found.
@@ -193,36 +182,4 @@ pub fn search<'a, Q: Ask, S: Stop>(
     let k = root.level() - 2;
     let number = forward(table, memo, rule, stop, k, generations, root.number())?;
     Ok(table.square(k + 1, number)?)
-}
-
-/// The result of a square of level k + 2, which is the square in its middle so many generations
-/// later.
-pub fn result<'a, Q: Ask, S: Stop>(
-    alloc: Global,
-    table: &mut SquareTable<'a>,
-    rule: &mut Q,
-    root: Square<'a>,
-    generations: u64,
-    stop: &mut S,
-) -> Result<Found<'a>, ResultFault>
-    requires { CanBeAsked (Q.state_count rule.old) table.old root }
-    ensures grows { GrowsOnWay (Q.meaning rule.old) generations table.old root.entry table.new }
-    ensures rule { KeepsRule Q.meaning Q.state_count rule.old rule.new }
-    ensures found { IfOk result
-        (Finds (Q.meaning rule.old) generations table.old root.entry table.new) }
-    ensures once { IfOk result
-        (AsksOnceFor Q.meaning Q.asks rule.old rule.new generations table.old root.entry) }
-    ensures end { IsEnd table.new (S.yes_count stop.old) (S.yes_count stop.new) result }
-{
-    let k = root.level() - 2;
-    let mut memo = Memo::nothing(alloc);
-    table.forget_notes();
-    memo.turn_to(generations);
-    let number = forward(table, &mut memo, rule, stop, k, generations, root.number())?;
-    let counts = count_squares(table);
-    Ok(Found {
-        square: table.square(k + 1, number)?,
-        fours: counts.fours,
-        base: counts.base,
-    })
 }

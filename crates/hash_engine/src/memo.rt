@@ -109,7 +109,7 @@ fn note(known: &mut Vec<u32>, number: u32, found: u32) -> Result<(), AllocError>
 
 impl Memo {
     /// Nothing yet, where nothing is noted in the table either.
-    #[tactic(auto, using(crate::proofs::Shared::no_full))]
+    #[tactic(auto, using(crate::proofs::Shared::Memos::no_full))]
     pub fn nothing(alloc: Global) -> Memo
         ensures right { (next : List ℕ → ℕ) (t : Table) → HasNoFull t → IsRightMemo next t result }
         ensures put { (next : List ℕ → ℕ) (t : Table) → HasNoFull t → HasPut next t result }
@@ -125,7 +125,7 @@ impl Memo {
     }
 
     /// Gives up all results but the table's, and keeps their memory.
-    #[tactic(auto, using(crate::proofs::Shared::no_full))]
+    #[tactic(auto, using(crate::proofs::Shared::Memos::no_full))]
     pub fn clear(&mut self)
         ensures { (next : List ℕ → ℕ) (t : Table) → HasNoFull t → IsRightMemo next t self.new }
     {
@@ -163,7 +163,7 @@ impl Memo {
 
     /// Makes it ready for a search by so many generations. Results by the other counts are given up
     /// where the last search was by another number.
-    pub(crate) fn turn_to(&mut self, generations: u64)
+    pub fn turn_to(&mut self, generations: u64)
         ensures right { StaysRightFor self.old self.new }
         ensures put { StaysPutFor self.old self.new }
         ensures made { StaysMadeFor self.old self.new }

@@ -1,6 +1,4 @@
 mod results;
-mod rules;
-mod squares;
 mod stops;
 
 use std::fmt::Debug;

@@ -2,7 +2,7 @@
 pub use Rattle.job_pool.specs.Home.{AreAnswersOf, IsAnswerOf, IsHome, terms_of}
 pub use Rattle.job_pool.specs.declared.answer_rule.Terms.{Terms}
 pub use Rattle.job_queue.proofs.Shared.Once.{floor_push}
-pub use Rattle.job_queue.specs.Ends.{IsOffered, Taking, new_taker}
+pub use Rattle.job_queue.specs.Ends.{IsOffered, Taking}
 pub use Rattle.job_queue.specs.Slips.{floor_of, slip_of}
 pub use Rattle.job_queue.specs.declared.rule.Slip.{Slip}
 pub use Rattle.revision_jobs.specs.Entries.{IsOf}

@@ -1,7 +1,17 @@
 -- Jobs in two queues, as what was sent by both together.
-use Rattle.std.specs.Prelude.{◌≡◌, ℕ, ◌+◌, ◌≤◌, List, sum_by}
+use Rattle.std.specs.Prelude.{◌≡◌, ℕ, ◌+◌, ◌≤◌, List, [], sum_by}
+use Rattle.revision_jobs.specs.declared.entries.Entries.{Entries}
 use Rattle.job_queue.specs.declared.rule.Slip.{Slip}
 use Rattle.job_queue.specs.Slips.{floor_of}
+
+-- the table of a post's jobs, and what it sent into both, the latest last
+pub record Outgoing : Type 0 where
+  pub table : Entries
+  pub sent : List Slip
+
+-- one that sent nothing yet
+abbrev pub new_outgoing : Entries → Outgoing
+new_outgoing entries = record { table = entries; sent = [] }
 
 -- each slip was sent as often as into the two queues together, and no number in them is above the
 -- last one

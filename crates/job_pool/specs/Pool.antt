@@ -5,10 +5,10 @@ use Rattle.std.specs.Borrow.{MutBor}
 use Rattle.revision_jobs.specs.declared.entries.Entries.{Entries}
 use Rattle.revision_jobs.specs.Posted.{PostHistory, PostView, no_history}
 use Rattle.job_queue.specs.declared.rule.Slip.{Slip}
-use Rattle.job_queue.specs.Ends.{Sending}
 use Rattle.job_queue.specs.Slips.{floor_of}
 use Rattle.job_pool.specs.declared.answer_rule.Terms.{Terms}
 use Rattle.job_pool.specs.Home.{terms_of}
+use Rattle.job_pool.specs.Lanes.{Outgoing}
 
 -- its table, how many squares a step may keep, the slips of the jobs that it took, and its history
 pub record Pool : Type 0 where
@@ -32,7 +32,7 @@ pool_view pool = record {
 }
 
 -- a post over this sender, at this limit, that wasn't asked yet
-abbrev pub pool_over : Sending → ℕ → Pool
+abbrev pub pool_over : Outgoing → ℕ → Pool
 pool_over jobs limit =
     record { table = jobs.table; limit = limit; sent = jobs.sent; history = no_history }
 

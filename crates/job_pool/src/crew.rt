@@ -1,6 +1,6 @@
 //! Starting workers, and calling a body on their post.
 ghost use Rattle.std.specs.Prelude.{◌≡◌, ◌≤◌, IfErr, IfOk, vec_len};
-ghost use Rattle.job_queue.specs.Ends.{new_sender};
+ghost use Rattle.job_pool.specs.Lanes.{new_outgoing};
 ghost use Rattle.job_pool.specs.Home.{terms_of};
 ghost use Rattle.job_pool.specs.Pool.{AreEnds, CallGives, CallTakes, new_pool, pool_over};
 
@@ -52,7 +52,7 @@ where
         thread::scope_env(),
         rt,
         move |scope| -> Result<T, NoPool<I>>
-            requires ends { (outbox ≡ new_sender entries.now)
+            requires ends { (outbox ≡ new_outgoing entries.now)
                 × (receiver ≡ terms_of entries.now squares) }
             requires workers { AreEnds entries.now squares (vec_len gates)
                 inboxes.items senders.items }

@@ -1,6 +1,6 @@
 //! Making the way of the jobs from a post to its workers.
 ghost use Rattle.std.specs.Prelude.{◌≡◌, ◌≤◌, All, IfOk, vec_len};
-ghost use Rattle.job_queue.specs.Ends.{new_sender};
+ghost use Rattle.job_pool.specs.Lanes.{new_outgoing};
 
 use crate::bells::Bells;
 use crate::inbox::Inbox;
@@ -20,7 +20,7 @@ pub(crate) fn lanes<'a>(
     workers: u8,
 ) -> Result<(Outbox<'a>, Vec<Inbox>), AllocError>
     requires { (1 ≤ workers) × (workers ≤ 8) }
-    ensures outbox { IfOk result (λ ends. ends.0 ≡ new_sender entries.now) }
+    ensures outbox { IfOk result (λ ends. ends.0 ≡ new_outgoing entries.now) }
     ensures count { IfOk result (λ ends. vec_len ends.1 ≡ workers) }
     ensures inboxes { IfOk result (λ ends. All (λ inbox. inbox ≡ entries.now) ends.1.items) }
 {

@@ -1,8 +1,9 @@
 //! The end of a post to which its jobs go: steps and views in queues of their own, and bells.
-ghost use Rattle.std.specs.Prelude.{◌≡◌, ◌≤◌};
+ghost use Rattle.std.specs.Prelude.{◌≡◌, ◌≤◌, []};
 ghost use Rattle.revision_jobs.specs.Entries.{IsOf};
-ghost use Rattle.job_queue.specs.Ends.{IsOffered, new_sender};
+ghost use Rattle.job_queue.specs.Ends.{IsOffered};
 ghost use Rattle.job_queue.specs.Slips.{floor_of};
+ghost use Rattle.job_pool.specs.Lanes.{new_outgoing};
 
 use crate::bells::Bells;
 use crate::sent::SentJobs;
@@ -26,9 +27,9 @@ pub(crate) struct Outbox<'a> {
 
 impl<'a> Model for Outbox<'a> {
     ghost use Rattle.std.specs.Prelude.{◌≡◌};
-    ghost use Rattle.job_queue.specs.Ends.{Sending};
+    ghost use Rattle.job_pool.specs.Lanes.{Outgoing};
 
-    ghost Value = { Sending };
+    ghost Value = { Outgoing };
 
     ghost view = { λ o. record { table = o.steps.table; sent = o.sent } };
 
@@ -47,9 +48,9 @@ impl<'a> Outbox<'a> {
         views: JobSender,
         bells: Bells,
     ) -> Outbox<'a>
-        requires steps { steps ≡ new_sender entries.now }
-        requires views { views ≡ new_sender entries.now }
-        ensures { result ≡ new_sender entries.now }
+        requires steps { (steps.table ≡ entries.now) × (steps.sent ≡ []) }
+        requires views { (views.table ≡ entries.now) × (views.sent ≡ []) }
+        ensures { result ≡ new_outgoing entries.now }
     {
         Outbox {
             entries,

@@ -4,7 +4,8 @@
 //! with its place's index. Each slip stands in the queue and in the lists of what the takers took
 //! together as often as in the list of what was sent, whose numbers rise. So no job is taken twice,
 //! none under another's place, and none is swallowed by a take. Every job is of the table that the
-//! queue was made for.
+//! queue was made for. Takers may come back to the sender; once all have, it settles: what they took
+//! is, together with what waits still, what was sent, each job once.
 //!
 //! An offer and a take cost a few steps on one slot. A take that finds nothing sleeps.
 #![tactic(auto)]

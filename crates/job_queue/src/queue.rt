@@ -2,8 +2,8 @@
 ghost use Rattle.std.specs.Prelude.{◌≡◌, ◌≤◌, [], All, IfOk, vec_len};
 ghost use Rattle.crossbeam_channel.specs.Claims.{view, IsSeatAt};
 ghost use Rattle.crossbeam_channel.specs.Ends.{receives_on, sends_on};
-ghost use Rattle.job_queue.specs.Balance.{IsTabled};
-ghost use Rattle.job_queue.specs.Ends.{new_sender, new_taker};
+ghost use Rattle.job_queue.specs.Balance.{IsLender, lending};
+ghost use Rattle.job_queue.specs.Ends.{new_sender, new_taker, queue_at};
 ghost use Rattle.job_queue.specs.Tables.{table_in};
 
 use crate::rule::{Balanced, EndView, MakesTaker, NamesTable, Naming};
@@ -24,9 +24,11 @@ pub fn job_queue(
     takers: u8,
 ) -> Result<(JobSender, Vec<JobTaker>), AllocError>
     requires { (1 ≤ takers) × (takers ≤ 8) }
-    ensures sender { IfOk result (λ ends. ends.0 ≡ new_sender entries.now) }
+    ensures sender { IfOk result (λ ends.
+        ends.0 ≡ new_sender ends.0.queue takers entries.now) }
     ensures count { IfOk result (λ ends. vec_len ends.1 ≡ takers) }
-    ensures takers { IfOk result (λ ends. All (λ t. t ≡ new_taker entries.now) ends.1.items) }
+    ensures takers { IfOk result (λ ends.
+        All (λ t. t ≡ new_taker ends.0.queue entries.now) ends.1.items) }
 {
     queue_of::<Brand>(alloc, entries, takers)
 }
@@ -38,9 +40,11 @@ fn queue_of<K: Naming>(
     takers: u8,
 ) -> Result<(JobSender, Vec<JobTaker>), AllocError>
     requires { K.table ≡ entries.now }
-    ensures sender { IfOk result (λ ends. ends.0 ≡ new_sender entries.now) }
+    ensures sender { IfOk result (λ ends.
+        ends.0 ≡ new_sender ends.0.queue takers entries.now) }
     ensures count { IfOk result (λ ends. vec_len ends.1 ≡ takers) }
-    ensures takers { IfOk result (λ ends. All (λ t. t ≡ new_taker entries.now) ends.1.items) }
+    ensures takers { IfOk result (λ ends.
+        All (λ t. t ≡ new_taker ends.0.queue entries.now) ends.1.items) }
 {
     let mut all = Vec::new(alloc);
     let (end, from, mut pass) = bounded_with::<Job, EndView, Balanced, Global>(alloc, CAPACITY)?;
@@ -64,9 +68,11 @@ fn another_taker(
 ) -> Result<JobTaker, AllocError>
     requires queue { IsSeatAt (sends_on end.now) pass.old
         × (receives_on from.now ≡ sends_on end.now) }
-    requires tabled { IsTabled (view pass.old) }
-    ensures pass { IsSeatAt (sends_on end.now) pass.new × (view pass.new ≡ view pass.old) }
-    ensures taker { IfOk result (λ t. t ≡ new_taker (table_in (view pass.old).table)) }
+    requires lender { IsLender (view pass.old) }
+    ensures pass { IsSeatAt (sends_on end.now) pass.new
+        × (view pass.new ≡ lending (view pass.old)) }
+    ensures taker { IfOk result (λ t.
+        t ≡ new_taker (queue_at (sends_on end.now)) (table_in (view pass.old).table)) }
 {
     let theirs = end.another::<MakesTaker>(pass);
     Ok(JobTaker {

@@ -1,6 +1,6 @@
 //! The rule of the queue, and what its steps tell.
 
-use crossbeam_channel::protocol::{Lesson, Outcome, Protocol, Split};
+use crossbeam_channel::protocol::{Join, Lesson, Outcome, Protocol, Split};
 use revision_jobs::{Entries, Job};
 use std::collections::LinkedList;
 use std::marker::{Brand, PhantomData};
@@ -12,25 +12,27 @@ pub struct Slip {
     pub index: usize,
 }
 
-/// What an end knows: whether it sends, the slips that it sent and took, and the table of its jobs.
-/// It stands in proofs alone; no value of it is made.
+/// What an end knows: whether it sends, the slips that it sent and took, the table of its jobs, for
+/// how many takers it stands, and at the sender how many are out. It stands in proofs alone; no
+/// value of it is made.
 pub struct EndView {
     pub sends: bool,
     pub sent: LinkedList<Slip>,
     pub taken: LinkedList<Slip>,
     pub table: Option<Entries>,
+    pub part: u64,
+    pub out: u64,
 }
 
 /// The rule: what was sent is what the takers took and what the queue holds.
 pub struct Balanced;
 
 impl Protocol<Job, EndView> for Balanced {
-    ghost use Rattle.std.specs.Prelude.{true, [], None};
-    ghost use Rattle.job_queue.specs.Balance.{IsBalanced, end_view};
+    ghost use Rattle.job_queue.specs.Balance.{IsBalanced, first_view};
 
     ghost holds = { IsBalanced };
 
-    ghost first = { end_view true [] [] None };
+    ghost first = { first_view };
 }
 
 /// Picks the table that the ends of a queue are of, when it is made.
@@ -52,35 +54,43 @@ pub struct NamesTable<K> {
 }
 
 impl<K: Naming> Split<EndView> for NamesTable<K> {
-    ghost use Rattle.std.specs.Prelude.{true, false, [], Some};
-    ghost use Rattle.job_queue.specs.Balance.{end_view};
+    ghost use Rattle.job_queue.specs.Balance.{spent_view, with_table};
 
-    ghost left = { λ v. end_view true v.sent [] (Some K.table) };
+    ghost left = { with_table K.table };
 
-    ghost right = { λ v. end_view false [] [] (Some K.table) };
+    ghost right = { λ _. spent_view };
 }
 
 /// The split that makes another taker.
 pub struct MakesTaker;
 
 impl Split<EndView> for MakesTaker {
-    ghost use Rattle.std.specs.Prelude.{false, []};
-    ghost use Rattle.job_queue.specs.Balance.{end_view};
+    ghost use Rattle.job_queue.specs.Balance.{lending, lent};
 
-    ghost left = { λ v. v };
+    ghost left = { lending };
 
-    ghost right = { λ v. end_view false [] [] v.table };
+    ghost right = { lent };
+}
+
+/// The join by which a taker comes back to the sender.
+pub struct TakesBack;
+
+impl Join<EndView> for TakesBack {
+    ghost use Rattle.job_queue.specs.Balance.{spent_view, with_back};
+
+    ghost both = { with_back };
+
+    ghost spent = { spent_view };
 }
 
 /// A send puts the job's slip behind what was sent.
 pub struct Sends;
 
 impl Outcome<Job, EndView> for Sends {
-    ghost use Rattle.std.specs.Prelude.{◌≡◌, ◌++◌, ◌∷◌, []};
-    ghost use Rattle.job_queue.specs.Balance.{end_view};
-    ghost use Rattle.job_queue.specs.Slips.{slip_of};
+    ghost use Rattle.std.specs.Prelude.{◌≡◌};
+    ghost use Rattle.job_queue.specs.Balance.{with_sent};
 
-    ghost then = { λ v job w. w ≡ end_view v.sends (v.sent ++ slip_of job ∷ []) v.taken v.table };
+    ghost then = { λ v job w. w ≡ with_sent v job };
 }
 
 // What the queue holds is among what was sent.
@@ -104,4 +114,14 @@ impl Lesson<Job, EndView> for Takes {
     ghost use Rattle.std.specs.Prelude.{⊤};
 
     ghost fact = { λ _ _. ⊤ };
+}
+
+/// What the sender learns when all takers came back: what was sent is what they took and what the
+/// queue holds.
+pub struct Settles;
+
+impl Lesson<Job, EndView> for Settles {
+    ghost use Rattle.job_queue.specs.Ends.{AddsUp};
+
+    ghost fact = { λ v _. AddsUp v.sent v.taken };
 }

@@ -1,17 +1,18 @@
 //! The end that jobs are offered to.
 ghost use Rattle.std.specs.Prelude.{◌≡◌, ◌≤◌};
 ghost use Rattle.revision_jobs.specs.Entries.{IsOf};
-ghost use Rattle.job_queue.specs.Ends.{IsOffered};
+ghost use Rattle.job_queue.specs.Ends.{AddsUp, IsOffered, with_back, with_sent};
 ghost use Rattle.job_queue.specs.Slips.{floor_of};
 
-use crate::rule::{Balanced, EndView, Sends};
+use crate::rule::{Balanced, EndView, Sends, Settles, TakesBack};
+use crate::taker::JobTaker;
 use crossbeam_channel::{Pass, RuledSender, TrySendError};
 use revision_jobs::{Job, Sent};
 use std::marker::Model;
 use std::sync::Wait;
 
-/// The one end that jobs are offered to. Contracts see the table of its jobs, and the slips of those
-/// that it sent.
+/// The one end that jobs are offered to. Contracts see its queue, the table of its jobs, the slips of
+/// those that it sent, what the takers took that came back to it, and how many takers didn't.
 pub struct JobSender {
     pub(crate) end: RuledSender<Job, EndView, Balanced>,
     pub(crate) pass: Pass<Job, EndView>,
@@ -33,17 +34,25 @@ impl Model for JobSender {
     ghost use Rattle.std.specs.Prelude.{◌≡◌};
     ghost use Rattle.crossbeam_channel.specs.Claims.{view as known, IsSeatAt};
     ghost use Rattle.crossbeam_channel.specs.Ends.{ruled_capacity, sends_on};
-    ghost use Rattle.job_queue.specs.Ends.{Sending};
+    ghost use Rattle.job_queue.specs.Ends.{Sending, queue_at};
 
     ghost Value = { Sending };
+
+    ghost use Rattle.std.specs.Coded.{codes};
+    ghost use Rattle.worlds.specs.World.{coded_world};
+
+    ghost coded = { Prim.hlevel (codes, coded_world) };
 
     ghost use Rattle.job_queue.specs.Balance.{IsSending};
     ghost use Rattle.job_queue.specs.Slips.{floor_of};
     ghost use Rattle.job_queue.specs.Tables.{table_in};
 
     ghost view = { λ s. record {
+      queue = queue_at (sends_on s.end);
       table = table_in (known s.pass).table;
       sent = (known s.pass).sent;
+      back = (known s.pass).taken;
+      out = (known s.pass).out;
     } };
 
     ghost invariant = { λ s. IsSeatAt (sends_on s.end) s.pass
@@ -61,6 +70,7 @@ impl JobSender {
         requires rises { floor_of self.old.sent ≤ job.number }
         ensures table { self.new.table ≡ self.old.table }
         ensures sent { IsOffered job self.old.sent self.new.sent result }
+        ensures others { self.new ≡ with_sent self.new.sent self.old }
     {
         let floor = u64::from(job.number) + 1;
         match self.end.try_send_as::<Sends, R>(rt, &mut self.pass, job) {
@@ -79,5 +89,24 @@ impl JobSender {
         ensures { result ≡ floor_of self.now.sent }
     {
         self.floor
+    }
+
+    /// Takes a taker of this queue back, with what it took.
+    pub fn take_back(&mut self, taker: JobTaker)
+        requires { taker.queue ≡ self.old.queue }
+        ensures { self.new ≡ with_back taker self.old }
+    {
+        self.end
+            .absorb::<TakesBack>(&mut self.pass, taker.into_pass());
+    }
+
+    /// Where all takers came back, what they took is, together with what waits still, what was
+    /// sent, each job once.
+    pub fn settle(&mut self)
+        requires { self.old.out ≡ 0 }
+        ensures same { self.new ≡ self.old }
+        ensures adds_up { AddsUp self.old.sent self.old.back }
+    {
+        self.end.learn_as::<Settles>(&mut self.pass);
     }
 }

@@ -2,6 +2,7 @@
 ghost use Rattle.std.specs.Prelude.{◌≡◌, IsTrue};
 ghost use Rattle.worlds.specs.Range.{AllBelow};
 ghost use Rattle.revision_jobs.specs.Entries.{IsOf};
+ghost use Rattle.job_queue.specs.Ends.{new_sender, with_sent};
 
 use basics::Listing;
 use bookmarks::View;
@@ -60,7 +61,7 @@ enum Offered {
 /// Offers a job of this number.
 fn offer_job<R: Abort + Wait>(rt: &R, sender: &mut JobSender, number: u32, place: &Place) -> Offered
     requires { IsOf sender.old.table place.now }
-    ensures { sender.new.table ≡ sender.old.table }
+    ensures { sender.new ≡ with_sent sender.new.sent sender.old }
 {
     assert!(rt;
         sender.floor() <= u64::from(number),
@@ -86,7 +87,7 @@ fn expect_offered<R: Abort + Wait>(
     wanted: Offered,
 )
     requires { IsOf sender.old.table place.now }
-    ensures { sender.new.table ≡ sender.old.table }
+    ensures { sender.new ≡ with_sent sender.new.sent sender.old }
 {
     same(rt, &offer_job(rt, sender, number, place), &wanted, &number);
 }
@@ -94,7 +95,7 @@ fn expect_offered<R: Abort + Wait>(
 /// Sends the jobs of the numbers below this one.
 fn send_below<R: Abort + Wait>(rt: &R, sender: &mut JobSender, place: &Place, end: u32)
     requires { IsOf sender.old.table place.now }
-    ensures { sender.new.table ≡ sender.old.table }
+    ensures { sender.new ≡ with_sent sender.new.sent sender.old }
 {
     for number in 0..end {
         expect_offered(rt, sender, number, place, Offered::Taken);
@@ -102,7 +103,9 @@ fn send_below<R: Abort + Wait>(rt: &R, sender: &mut JobSender, place: &Place, en
 }
 
 /// The number of the next job.
-fn taken<R: Wait>(rt: &R, taker: &mut JobTaker) -> Option<u32> {
+fn taken<R: Wait>(rt: &R, taker: &mut JobTaker) -> Option<u32>
+    ensures { taker.new.queue ≡ taker.old.queue }
+{
     let job = taker.take(rt)?;
     Some(job.number)
 }
@@ -113,6 +116,22 @@ fn queue_of_one(rt: &impl Abort, alloc: Global, entries: &Entries) -> (JobSender
 {
     let (sender, mut takers) = job_queue(alloc, entries, 1).expect(rt, "memory");
     (sender, takers.pop().expect(rt, "a taker"))
+}
+
+/// A queue of the table and its two takers.
+fn queue_of_two(
+    rt: &impl Abort,
+    alloc: Global,
+    entries: &Entries,
+) -> (JobSender, JobTaker, JobTaker)
+    ensures sender { result.0 ≡ new_sender result.0.queue 2 entries.now }
+    ensures one { result.1.queue ≡ result.0.queue }
+    ensures other { result.2.queue ≡ result.0.queue }
+{
+    let (sender, mut takers) = job_queue(alloc, entries, 2).expect(rt, "memory");
+    let one = takers.pop().expect(rt, "a taker");
+    let other = takers.pop().expect(rt, "a taker");
+    (sender, one, other)
 }
 
 #[test]
@@ -166,6 +185,23 @@ fn takers_share_what_was_sent(rt: HostRuntime) {
     same(&rt, &taken(&rt, &mut one), &Some(0), &"one");
     same(&rt, &taken(&rt, &mut other), &Some(1), &"the other");
     same(&rt, &taken(&rt, &mut one), &Some(2), &"one again");
+}
+
+// What two takers took adds up with what waits to what was sent: the sender may settle once both
+// came back.
+#[test]
+fn a_sender_settles_when_all_takers_came_back(rt: HostRuntime) {
+    let alloc = rt.alloc();
+    let entries = table(&rt, alloc);
+    let place = push_counts(&rt, alloc, &entries);
+    let (mut sender, mut one, mut other) = queue_of_two(&rt, alloc, &entries);
+    send_below(&rt, &mut sender, &place, 3);
+    same(&rt, &taken(&rt, &mut one), &Some(0), &"one");
+    same(&rt, &taken(&rt, &mut other), &Some(1), &"the other");
+    sender.take_back(one);
+    sender.take_back(other);
+    sender.settle();
+    expect_offered(&rt, &mut sender, 3, &place, Offered::Closed(3));
 }
 
 /// How often the sender lets others run before it sends.

@@ -2,7 +2,7 @@
 use Rattle.reply_laws.proofs.Names.{AddsNone, After, AllByRecursion, Ask, Asked, Between, Bookmark, Bool, Branch, Changed, Ended, Fault, Fits, Format, HasStates, Intervention, IsPlaced, IsSound, Line, LineFits, List, Loaded, None, Ok}
 use Rattle.reply_laws.proofs.Names.{Option, Plan, ReplaceRule, ReplaceStart, Result, Session, Shortage, Some, World, [], accepted, adds_branch, afters, all_so, answer, arith, asks, asks-fit, blank, changed, codes, cond, documents_of}
 use Rattle.reply_laws.proofs.Names.{documents_with, edited, false, first_of, first_shortage, id_word, later_shortages, lines_until, nat_tests, of_edit, of_macrocell, of_pattern, of_rule, opening, opening_session, pattern_of, refl, refusal}
-use Rattle.reply_laws.proofs.Names.{rule_of, session_after, some_changed, sound_changed, started, states_of, states_of-still, still, taken, unless_fault, unless_memory, unless_refused, words, ℕ, ◌++◌, ◌<◌, ◌∷◌, ◌≡◌}
+use Rattle.reply_laws.proofs.Names.{rule_of, session_after, some_changed, sound_changed, started, states_of, states_of-still, still, taken, unless_fault, unless_memory, unless_refused, unless_unread, words, ℕ, ◌++◌, ◌<◌, ◌∷◌, ◌≡◌}
 use Rattle.rule_tree.specs.declared.rule.Rule.{Rule as FileRule}
 use Rattle.multistate_macrocell.specs.Pattern as macrocells
 use Rattle.schedule.specs.declared.fault.EditFault.{EditFault}
@@ -22,43 +22,51 @@ pub unless_memory-keeps : (K : Plan → Type 0) (short : Shortage) (p : Plan) (a
     → K (unless_memory short p after).plan
 unless_memory-keeps K short p after k h = grind (arith)
 
+pub unless_unread-keeps : (K : Plan → Type 0) (short : Shortage) (p : Plan) (after : After) → K p → K after.plan
+    → K (unless_unread short p after).plan
+unless_unread-keeps K short p after k h = grind (arith)
+
 pub unless_fault-keeps : {A E : Type 0} (K : Plan → Type 0) (p : Plan) (refusal : E → Fault) (done : A → After)
     (r : Result A E) → K p → ((value : A) → r ≡ Ok value → K (done value).plan) → K (unless_fault p refusal done r).plan
 unless_fault-keeps K p refusal done r k h = grind (arith)
 
-pub made-keeps : (K : Plan → Type 0) (p : Plan) (c : Changed) (word : List ℕ) (number : Changed → Option ℕ)
-    (o : Option EditFault) → K p → (o ≡ None → K c.plan)
-    → K (unless_fault p of_edit (λ (d : Changed). accepted d word (number d)) (unless_refused o c)).plan
-made-keeps K p c word number o k h = grind (arith)
+pub made-keeps : (K : Plan → Type 0) (short : Shortage) (p : Plan) (c : Changed) (word : List ℕ)
+    (number : Changed → Option ℕ) (o : Option EditFault) → K p → (o ≡ None → K c.plan)
+    → K (unless_fault p of_edit (λ (d : Changed). unless_memory short p (accepted d word (number d)))
+    (unless_refused o c)).plan
+made-keeps K short p c word number (Some fault) k h = k
+made-keeps K short p c word number None k h =
+    unless_memory-keeps K short p (accepted c word (number c)) k (h refl)
 
-edited-keeps : (K : Plan → Type 0) (Q : Asked → Type 0) → Stays K Q → (p : Plan) (asked : Asked) → Q asked → K p
-    → K (edited p asked).plan
-edited-keeps K Q stays p asked q k = made-keeps K p (changed p asked) (id_word asked) (λ (d : Changed). d.edited.id)
+edited-keeps : (K : Plan → Type 0) (Q : Asked → Type 0) → Stays K Q → (short : Shortage) (p : Plan) (asked : Asked)
+    → Q asked → K p → K (edited short p asked).plan
+edited-keeps K Q stays short p asked q k =
+    made-keeps K short p (changed p asked) (id_word asked) (λ (d : Changed). d.edited.id)
     (refusal p asked) k (stays.step p asked q k)
 
-started-keeps : (K : Plan → Type 0) (Q : Asked → Type 0) → Stays K Q → (p : Plan) (generation : ℕ) (start : World) → K p
-    → K (started p generation start).plan
-started-keeps K Q stays p generation start k =
-    made-keeps K p (changed p (ReplaceStart start)) (codes " gen ") (λ (d : Changed). Some generation)
+started-keeps : (K : Plan → Type 0) (Q : Asked → Type 0) → Stays K Q → (short : Shortage) (p : Plan) (generation : ℕ)
+    (start : World) → K p → K (started short p generation start).plan
+started-keeps K Q stays short p generation start k =
+    made-keeps K short p (changed p (ReplaceStart start)) (codes " gen ") (λ (d : Changed). Some generation)
     (refusal p (ReplaceStart start)) k (stays.step p (ReplaceStart start) (stays.starts start) k)
 
-taken-keeps : (K : Plan → Type 0) (Q : Asked → Type 0) → Stays K Q → (p : Plan) (format : Format) (text : List ℕ) → K p
-    → K (taken p format text).plan
-taken-keeps K Q stays p format.Rule text k =
-    unless_fault-keeps K p of_rule (λ (rule : FileRule). edited p (ReplaceRule rule)) (rule_of text) k
-    (λ rule is. edited-keeps K Q stays p (ReplaceRule rule) (stays.rules text rule is) k)
-taken-keeps K Q stays p format.Rle text k =
-    unless_fault-keeps K p of_pattern (λ (loaded : Loaded). started p loaded.generation loaded.plane)
+taken-keeps : (K : Plan → Type 0) (Q : Asked → Type 0) → Stays K Q → (short : Shortage) (p : Plan) (format : Format)
+    (text : List ℕ) → K p → K (taken short p format text).plan
+taken-keeps K Q stays short p format.Rule text k =
+    unless_fault-keeps K p of_rule (λ (rule : FileRule). edited short p (ReplaceRule rule)) (rule_of text) k
+    (λ rule is. edited-keeps K Q stays short p (ReplaceRule rule) (stays.rules text rule is) k)
+taken-keeps K Q stays short p format.Rle text k =
+    unless_fault-keeps K p of_pattern (λ (loaded : Loaded). started short p loaded.generation loaded.plane)
     (pattern_of text) k
-    (λ loaded is. started-keeps K Q stays p loaded.generation loaded.plane k)
-taken-keeps K Q stays p format.Macrocell text k =
-    unless_fault-keeps K p of_macrocell (λ (loaded : Loaded). started p loaded.generation loaded.plane)
+    (λ loaded is. started-keeps K Q stays short p loaded.generation loaded.plane k)
+taken-keeps K Q stays short p format.Macrocell text k =
+    unless_fault-keeps K p of_macrocell (λ (loaded : Loaded). started short p loaded.generation loaded.plane)
     (macrocells.pattern_of text) k
-    (λ loaded is. started-keeps K Q stays p loaded.generation loaded.plane k)
+    (λ loaded is. started-keeps K Q stays short p loaded.generation loaded.plane k)
 
 pub answer-keeps : (K : Plan → Type 0) (Q : Asked → Type 0) → Stays K Q → (short : Shortage) (s : Session) (ask : Ask)
     → Fits Q ask → K s.plan → K (answer short s ask).plan
-answer-keeps K Q stays short s ask q k = grind (arith, edited-keeps, taken-keeps)
+answer-keeps K Q stays short s ask q k = grind (arith, edited-keeps, taken-keeps, unless_unread-keeps)
 
 -- the document after a reply, and those after what follows
 documents-more : (K : Plan → Type 0) (q : Plan) (ends : Bool) (more : List After) → K q

@@ -1,7 +1,14 @@
 -- Answers for which nothing is short.
-use Rattle.reply_laws.proofs.Names.{After, AllByRecursion, AllCausedOver, Ask, BadCommand, Bookmark, Bool, Command, IsCaused, IsCausedOver, Known, List, NoEnd, NoShortage, None, Obey, Option, Plan, Refuse, Session, Shortage, Some, Take}
-use Rattle.reply_laws.proofs.Names.{Unsettled, [], afters, answer, ap, arith, asked_of, codes, cond, decimal, edited, false, first_shortage, flat_map, inl, inr, later_shortages, length, list_all, listed, nat_le, obeyed, only, polled, refl}
-use Rattle.reply_laws.proofs.Names.{scripted, session_after, settled, shown, suc, true, unless_memory, zero, ℕ, ◌&&◌, ◌++◌, ◌∷◌, ◌≡◌, ◌⊎◌}
+use Rattle.reply_laws.proofs.Names.{After, AllByRecursion, AllCausedOver, Ask, Asked, BadCommand, Bookmark, Bool, Changed, Command, Fault, Format, IsCaused, IsCausedOver, Known, List, Loaded, NoEnd, NoShortage, None, Obey, Ok, Option}
+use Rattle.reply_laws.proofs.Names.{Plan, Refuse, ReplaceRule, ReplaceStart, Result, Session, Shortage, Some, Take, Unsettled, [], accepted, afters, answer, ap, arith, asked_of, change, codes, cond, decimal, edited, edited_as, false}
+use Rattle.reply_laws.proofs.Names.{first_shortage, flat_map, id_word, inl, inr, later_shortages, length, list_all, listed, nat_le, obeyed, of_edit, of_macrocell, of_pattern, of_rule, of_script, only, pattern_of, polled, refl, refused}
+use Rattle.reply_laws.proofs.Names.{rule_of, scripted, session_after, settled, shown, shown_id, started, suc, taken, true, unless_fault, unless_memory, unless_unread, zero, ℕ, ◌&&◌, ◌++◌, ◌∷◌, ◌≡◌, ◌⊎◌}
+use Rattle.std.specs.Prelude.{Err}
+use Rattle.desk_server.specs.Shortage.{Memory, Pending, Still, Unread}
+use Rattle.rule_tree.specs.declared.rule.Rule.{Rule as FileRule}
+use Rattle.multistate_macrocell.specs.Pattern as macrocells
+use Rattle.schedule.specs.declared.fault.EditFault.{EditFault}
+use Rattle.desk_script.specs.declared.format.Format.TheVariants as format
 use Rattle.desk_core.specs.declared.cause.Cause.{Cause}
 use Rattle.desk_events.specs.Wanted.{bookmark_in}
 use Rattle.desk_script.specs.declared.command.Command.TheVariants as command
@@ -16,6 +23,52 @@ IsPlain prompt after plain = (after ≡ plain) ⊎ ShowsShortage prompt after.to
 unless-plain : (prompt : Bool) (short : Shortage) (p : Plan) (plain : After)
     → IsPlain prompt (unless_memory short p plain) plain
 unless-plain prompt short p plain = grind (arith)
+
+unread-plain : (prompt : Bool) (short : Shortage) (p : Plan) (after plain : After) → IsPlain prompt after plain
+    → IsPlain prompt (unless_unread short p after) plain
+unread-plain prompt Unread p after plain h = inr (inl refl)
+unread-plain prompt NoShortage p after plain h = h
+unread-plain prompt Memory p after plain h = h
+unread-plain prompt (Unsettled n cause) p after plain h = h
+unread-plain prompt Pending p after plain h = h
+unread-plain prompt (Still n cause) p after plain h = h
+unread-plain prompt (Known known) p after plain h = h
+
+-- an edit that is made or refused
+edited-plain : (prompt : Bool) (short : Shortage) (p : Plan) (asked : Asked) (word : List ℕ)
+    (number : Changed → Option ℕ)
+    → IsPlain prompt (edited_as short p asked word number) (edited_as NoShortage p asked word number)
+edited-plain prompt short p asked word number = by (change p asked)
+  where
+    by : (r : Result Changed EditFault)
+        → IsPlain prompt (unless_fault p of_edit (λ (c : Changed). unless_memory short p (accepted c word (number c))) r)
+        (unless_fault p of_edit (λ (c : Changed). accepted c word (number c)) r)
+    by (Ok c) = unless-plain prompt short p (accepted c word (number c))
+    by (Err fault) = inl refl
+
+fault-plain : {A E : Type 0} (prompt : Bool) (p : Plan) (told : E → Fault) (done plain : A → After)
+    (r : Result A E) → ((value : A) → IsPlain prompt (done value) (plain value))
+    → IsPlain prompt (unless_fault p told done r) (unless_fault p told plain r)
+fault-plain prompt p told done plain (Ok value) h = h value
+fault-plain prompt p told done plain (Err fault) h = inl refl
+
+started-plain : (prompt : Bool) (short : Shortage) (p : Plan) (loaded : Loaded)
+    → IsPlain prompt (started short p loaded.generation loaded.plane) (started NoShortage p loaded.generation loaded.plane)
+started-plain prompt short p loaded =
+    edited-plain prompt short p (ReplaceStart loaded.plane) (codes " gen ") (λ _. Some loaded.generation)
+
+taken-plain : (prompt : Bool) (short : Shortage) (p : Plan) (format : Format) (text : List ℕ)
+    → IsPlain prompt (taken short p format text) (taken NoShortage p format text)
+taken-plain prompt short p format.Rule text =
+    fault-plain prompt p of_rule (λ (rule : FileRule). edited short p (ReplaceRule rule))
+    (λ (rule : FileRule). edited NoShortage p (ReplaceRule rule)) (rule_of text)
+    (λ rule. edited-plain prompt short p (ReplaceRule rule) (id_word (ReplaceRule rule)) (λ (c : Changed). c.edited.id))
+taken-plain prompt short p format.Rle text =
+    fault-plain prompt p of_pattern (λ (l : Loaded). started short p l.generation l.plane)
+    (λ (l : Loaded). started NoShortage p l.generation l.plane) (pattern_of text) (started-plain prompt short p)
+taken-plain prompt short p format.Macrocell text =
+    fault-plain prompt p of_macrocell (λ (l : Loaded). started short p l.generation l.plane)
+    (λ (l : Loaded). started NoShortage p l.generation l.plane) (macrocells.pattern_of text) (started-plain prompt short p)
 
 left-plain : (prompt b : Bool) (p : Plan) (n : ℕ) (cause : Option Cause) → IsCausedOver prompt (Unsettled n cause)
     → IsPlain prompt (cond b (only p (unsettled_text n cause)) (only p settled_text)) (only p settled_text)
@@ -61,29 +114,38 @@ listed-plain prompt short p = inl refl
 
 shown-plain : (prompt : Bool) (short : Shortage) (p : Plan) (id : ℕ) (b : Option Bookmark)
     → IsPlain prompt (shown short p id b) (shown NoShortage p id b)
-shown-plain prompt short p id b = grind (arith, unless-plain)
+shown-plain prompt short p id b = grind (arith)
+
+asked-plain : (prompt : Bool) (short : Shortage) (p : Plan) (id : ℕ)
+    → IsPlain prompt (unless_unread short p (shown_id short p id)) (shown_id NoShortage p id)
+asked-plain prompt short p id =
+    unread-plain prompt short p (shown_id short p id) (shown_id NoShortage p id)
+    (shown-plain prompt short p id (bookmark_in p.bookmarks id))
 
 obeyed-plain : (prompt : Bool) (short : Shortage) (s : Session) (command : Command) → IsCausedOver prompt short
     → IsPlain prompt (obeyed short s command) (obeyed NoShortage s command)
 obeyed-plain prompt short s (command.Edit edit) h =
-    unless-plain prompt short s.plan (edited s.plan (asked_of edit))
+    unread-plain prompt short s.plan (edited short s.plan (asked_of edit)) (edited NoShortage s.plan (asked_of edit))
+    (edited-plain prompt short s.plan (asked_of edit) (id_word (asked_of edit)) (λ (c : Changed). c.edited.id))
 obeyed-plain prompt short s command.Settle h = settled-plain prompt short s.plan h
-obeyed-plain prompt short s (command.Show id) h =
-    shown-plain prompt short s.plan id (bookmark_in s.plan.bookmarks id)
-obeyed-plain prompt short s (command.Peek id) h =
-    shown-plain prompt short s.plan id (bookmark_in s.plan.bookmarks id)
+obeyed-plain prompt short s (command.Show id) h = asked-plain prompt short s.plan id
+obeyed-plain prompt short s (command.Peek id) h = asked-plain prompt short s.plan id
 obeyed-plain prompt short s command.Poll h = polled-plain prompt short s.plan
 obeyed-plain prompt short s command.List h = listed-plain prompt short s.plan
-obeyed-plain prompt short s command.Script h = unless-plain prompt short s.plan (scripted NoShortage s)
+obeyed-plain prompt short s command.Script h =
+    unread-plain prompt short s.plan (scripted short s) (scripted NoShortage s)
+    (unless-plain prompt short s.plan (scripted NoShortage s))
 obeyed-plain prompt short s command h = inl refl
 
 answer-plain : (prompt : Bool) (short : Shortage) (s : Session) (ask : Ask) → IsCausedOver prompt short
     → IsPlain prompt (answer short s ask) (answer NoShortage s ask)
 answer-plain prompt short s (Obey command) h = obeyed-plain prompt short s command h
 answer-plain prompt short s (Take format text) h =
-    unless-plain prompt short s.plan (answer NoShortage s (Take format text))
+    unread-plain prompt short s.plan (taken short s.plan format text) (taken NoShortage s.plan format text)
+    (taken-plain prompt short s.plan format text)
 answer-plain prompt short s (Refuse (BadCommand line)) h =
-    unless-plain prompt short s.plan (answer NoShortage s (Refuse (BadCommand line)))
+    unread-plain prompt short s.plan (refused s.plan (of_script (BadCommand line)))
+    (refused s.plan (of_script (BadCommand line))) (inl refl)
 answer-plain prompt short s (Refuse (NoEnd line)) h = inl refl
 
 -- the plain answer was given, and what follows is plain where the script goes on

@@ -1,7 +1,7 @@
 -- The script of a document makes it anew.
 use Rattle.reply_laws.proofs.Names.{AllBelow, AllByRecursion, Ask, Asked, Between, Bool, CanBeWritten, Changed, End, Ended, Format, HasMargin, HasText, InText, IsAccepted, IsDigit, IsInside, IsName, IsSound, IsVisible, IsWritten, List}
 use Rattle.reply_laws.proofs.Names.{Loaded, MakesAnew, NoLineFeed, NoShortage, None, NoneEnds, Obey, Ok, Option, Plan, ReplaceRule, ReplaceStart, ScriptsMakeAnew, Session, Some, Take, World, [], accepted, afters, all_so, answer, ap}
-use Rattle.reply_laws.proofs.Names.{append_assoc, arith, asked_of, asks, change, changed, codes, cond, decimal, differs, digit-visible, edited, edits_for, false, filter, format_of, full_line, get_or, id_word, ints, is_end, is_passed_over}
+use Rattle.reply_laws.proofs.Names.{append_assoc, arith, asked_of, asks, changed, codes, cond, decimal, differs, digit-visible, edited, edited_as, edits_for, false, filter, format_of, full_line, get_or, id_word, ints, is_end, is_passed_over}
 use Rattle.reply_laws.proofs.Names.{is_word, join_with_byte, last_plan, length, line-first, lines_until, map, name_of, of_edit, of_macrocell, of_rule, onto_first, opening, opening_session, printed-tested, raw_bytes, refl, refusal}
 use Rattle.reply_laws.proofs.Names.{row_edits, rule_of, session_after, slice_split, squashed, started, subst, sym, text_of_lines, true, unless_fault, unless_refused, visible-printed, ℕ, ℤ, ◌++◌, ◌+◌, ◌<◌, ◌==◌, ◌^◌, ◌∙◌, ◌∷◌, ◌≡◌, ◌≢◌, ◌≤◌}
 use Rattle.std.proofs.lemmas.Slice.Eq.{bytes_eq-Decides}
@@ -74,8 +74,7 @@ makes-more s ask c word number rest q is makes = grind (arith)
 
 -- an edit that isn't refused is accepted
 unrefused : (p : Plan) (asked : Asked) (word : List ℕ) (number : Changed → Option ℕ) → refusal p asked ≡ None
-    → unless_fault p of_edit (λ (c : Changed). accepted c word (number c)) (change p asked)
-    ≡ accepted (changed p asked) word (number (changed p asked))
+    → edited_as NoShortage p asked word number ≡ accepted (changed p asked) word (number (changed p asked))
 unrefused p asked word number free =
     ap (λ o. unless_fault p of_edit (λ (c : Changed). accepted c word (number c)) (unless_refused o (changed p asked))) free
 
@@ -87,7 +86,7 @@ edits-made (x ∷ edits) [] s q are lead = absurd are
 edits-made (x ∷ edits) (ask ∷ rest) s q are lead =
     let one = are.0 in
     makes-more s ask (changed s.plan x) (id_word x) (changed s.plan x).edited.id rest q
-    (ap (answer NoShortage s) one.is ∙ ap (edited s.plan) one.of
+    (ap (answer NoShortage s) one.is ∙ ap (edited NoShortage s.plan) one.of
     ∙ unrefused s.plan x (id_word x) (λ (c : Changed). c.edited.id) lead.0)
     (edits-made edits rest (session_after s ask (changed s.plan x).plan) q are.1 lead.1)
 
@@ -99,7 +98,7 @@ rule-made : (text : List ℕ) (rule : FileRule) (rest : List Ask) (s : Session) 
 rule-made text rule rest s q means free makes =
     let c = changed s.plan (ReplaceRule rule) in
     makes-more s (Take format.Rule text) c (id_word (ReplaceRule rule)) c.edited.id rest q
-    (ap (unless_fault s.plan of_rule (λ (r : FileRule). edited s.plan (ReplaceRule r))) means
+    (ap (unless_fault s.plan of_rule (λ (r : FileRule). edited NoShortage s.plan (ReplaceRule r))) means
     ∙ unrefused s.plan (ReplaceRule rule) (id_word (ReplaceRule rule)) (λ (d : Changed). d.edited.id) free) makes
 
 start-made : (text name : List ℕ) (start : World) (rest : List Ask) (s : Session) (q : Plan)
@@ -109,7 +108,7 @@ start-made : (text name : List ℕ) (start : World) (rest : List Ask) (s : Sessi
     → Makes s (Take format.Macrocell text ∷ rest) q
 start-made text name start rest s q means free makes =
     makes-more s (Take format.Macrocell text) (changed s.plan (ReplaceStart start)) (codes " gen ") (Some 0) rest q
-    (ap (unless_fault s.plan of_macrocell (λ (l : Loaded). started s.plan l.generation l.plane)) means
+    (ap (unless_fault s.plan of_macrocell (λ (l : Loaded). started NoShortage s.plan l.generation l.plane)) means
     ∙ unrefused s.plan (ReplaceStart start) (codes " gen ") (λ _. Some 0) free) makes
 
 -- the lines of a text

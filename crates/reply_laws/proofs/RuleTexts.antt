@@ -3,14 +3,14 @@ use Rattle.reply_laws.proofs.Names.{After, AllByRecursion, Ask, Asked, BadComman
 use Rattle.reply_laws.proofs.Names.{Obey, Ok, Option, Plan, Refuse, ReplaceRule, Result, Session, Shortage, Take, TakesNoRule, World, [], all_append, answer, ap, append-nil, arith, asked_at, asked_by, asks, asks-fit, changed, cond, differs}
 use Rattle.reply_laws.proofs.Names.{edited, false, first_shortage, format_of, full_line, id_word, is_end, is_passed_over, last_line, later_shortages, lines_from, lines_until, nat_tests, no_line_feed-append, obeyed, of_macrocell, of_pattern}
 use Rattle.reply_laws.proofs.Names.{of_rule, of_script, opening_session, pattern_of, place_behind, refl, refusal, refused, rule_of, rule_text_after, session_after, sessions, started, subst, sym, taken, text_of_lines, unless_fault}
-use Rattle.reply_laws.proofs.Names.{unless_memory, ℕ, ◌++◌, ◌+◌, ◌==◌, ◌∙◌, ◌∷◌, ◌≡◌}
+use Rattle.reply_laws.proofs.Names.{unless_unread, ℕ, ◌++◌, ◌+◌, ◌==◌, ◌∙◌, ◌∷◌, ◌≡◌}
 use Rattle.std.specs.Prelude.{⊤}
 use Rattle.std.proofs.lemmas.List.Concat.{flat_map-append}
 use Rattle.multistate_macrocell.specs.Pattern as macrocells
 use Rattle.rule_tree.specs.declared.rule.Rule.{Rule as FileRule}
 use Rattle.desk_script.specs.declared.format.Format.TheVariants as format
 use Rattle.reply_laws.proofs.OneLine.{each-line, made-keeps}
-use Rattle.reply_laws.proofs.OneLine.{unless_fault-keeps, unless_memory-keeps}
+use Rattle.reply_laws.proofs.OneLine.{unless_fault-keeps, unless_unread-keeps}
 use Rattle.reply_laws.proofs.Remade.{AreTextLines}
 use Rattle.desk_server.proofs.Shared.RuleTexts.{rule-same}
 
@@ -121,16 +121,17 @@ command-rule : (short : Shortage) (s : Session) (c : Command) → Fits TakesNoRu
     → (obeyed short s c).plan.rule ≡ s.plan.rule
 command-rule short s c h = grind (arith, rule-stays)
 
-start-rule : (p : Plan) (generation : ℕ) (start : World) → (started p generation start).plan.rule ≡ p.rule
-start-rule p generation start = grind (arith)
+start-rule : (short : Shortage) (p : Plan) (generation : ℕ) (start : World)
+    → (started short p generation start).plan.rule ≡ p.rule
+start-rule short p generation start = grind (arith)
 
-short-rule : (short : Shortage) (p : Plan) (after : After) → after.plan.rule ≡ p.rule
-    → (unless_memory short p after).plan.rule ≡ p.rule
-short-rule short p after e = grind (arith)
+unread-rule : (short : Shortage) (p : Plan) (after : After) → after.plan.rule ≡ p.rule
+    → (unless_unread short p after).plan.rule ≡ p.rule
+unread-rule short p after e = grind (arith)
 
-loaded-rule : {E : Type 0} (p : Plan) (told : E → Fault) (r : Result Loaded E)
-    → (unless_fault p told (λ (l : Loaded). started p l.generation l.plane) r).plan.rule ≡ p.rule
-loaded-rule p told r = grind (arith, start-rule)
+loaded-rule : {E : Type 0} (short : Shortage) (p : Plan) (told : E → Fault) (r : Result Loaded E)
+    → (unless_fault p told (λ (l : Loaded). started short p l.generation l.plane) r).plan.rule ≡ p.rule
+loaded-rule short p told r = grind (arith, start-rule)
 
 taken-text : (s : Session) (text : List ℕ) (rule : FileRule) → IsText text → rule_of text ≡ Ok rule
     → HasText (changed s.plan (ReplaceRule rule)).plan
@@ -145,21 +146,21 @@ next-text short s (Obey c) h text has =
 next-text short s (Take format.Rule text) h is has =
     let K : Plan → Type 0 = λ q. HasText q (rule_text_after s (Take format.Rule text) q) in
     let now : K s.plan = subst (HasText s.plan) (sym (rule-same s (Take format.Rule text))) has in
-    unless_memory-keeps K short s.plan (taken s.plan format.Rule text) now
-    (unless_fault-keeps K s.plan of_rule (λ (rule : FileRule). edited s.plan (ReplaceRule rule)) (rule_of text) now
-    (λ rule means. made-keeps K s.plan (changed s.plan (ReplaceRule rule)) (id_word (ReplaceRule rule))
+    unless_unread-keeps K short s.plan (taken short s.plan format.Rule text) now
+    (unless_fault-keeps K s.plan of_rule (λ (rule : FileRule). edited short s.plan (ReplaceRule rule)) (rule_of text) now
+    (λ rule means. made-keeps K short s.plan (changed s.plan (ReplaceRule rule)) (id_word (ReplaceRule rule))
     (λ (d : Changed). d.edited.id) (refusal s.plan (ReplaceRule rule)) now (λ free. taken-text s text rule is means)))
 next-text short s (Take format.Rle text) h is has =
     text-same s.plan (answer short s (Take format.Rle text)).plan s.rule_text
-    (short-rule short s.plan (taken s.plan format.Rle text) (loaded-rule s.plan of_pattern
+    (unread-rule short s.plan (taken short s.plan format.Rle text) (loaded-rule short s.plan of_pattern
     (pattern_of text))) has
 next-text short s (Take format.Macrocell text) h is has =
     text-same s.plan (answer short s (Take format.Macrocell text)).plan s.rule_text
-    (short-rule short s.plan (taken s.plan format.Macrocell text)
-    (loaded-rule s.plan of_macrocell (macrocells.pattern_of text))) has
+    (unread-rule short s.plan (taken short s.plan format.Macrocell text)
+    (loaded-rule short s.plan of_macrocell (macrocells.pattern_of text))) has
 next-text short s (Refuse (BadCommand line)) h is has =
     text-same s.plan (answer short s (Refuse (BadCommand line))).plan s.rule_text
-    (short-rule short s.plan (refused s.plan (of_script (BadCommand line))) refl) has
+    (unread-rule short s.plan (refused s.plan (of_script (BadCommand line))) refl) has
 next-text short s (Refuse (NoEnd line)) h is has = has
 
 -- what each answer keeps of a session holds in each session

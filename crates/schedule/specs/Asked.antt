@@ -6,7 +6,6 @@ use Rattle.worlds.specs.World.{World}
 use Rattle.rule_tree.specs.declared.rule.Rule.{Rule}
 use Rattle.bookmarks.specs.declared.view.View.{View}
 use Rattle.schedule.specs.declared.acts.Acts.{Acts}
-use Rattle.schedule.specs.declared.acts.Acts.TheVariants.{Once, Every}
 use Rattle.schedule.specs.declared.edit.Edit.{Edit}
 use Rattle.schedule.specs.declared.edit.Edit.TheVariants as edit
 
@@ -29,11 +28,8 @@ pub data Asked : Type 0 where
 
 -- what an edit asks for
 abbrev pub asked_of : Edit → Asked
-asked_of (edit.InsertIntervention branch generation cells) = Insert branch (Once generation) cells
-asked_of (edit.ChangeIntervention id generation cells) = Change id (Once generation) cells
-asked_of (edit.InsertRepeat branch first every last cells) =
-    Insert branch (Every first every last) cells
-asked_of (edit.ChangeRepeat id first every last cells) = Change id (Every first every last) cells
+asked_of (edit.Insert branch acts cells) = Insert branch acts cells
+asked_of (edit.Change id acts cells) = Change id acts cells
 asked_of (edit.RemoveIntervention id) = RemoveIntervention id
 asked_of (edit.SetCells cells) = SetCells cells
 asked_of (edit.ReplaceStart start) = ReplaceStart (arc_value start)

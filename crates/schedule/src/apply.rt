@@ -53,30 +53,12 @@ impl Document {
         ensures unchanged { OnErr result (self.new ≡ self.old) }
     {
         match edit {
-            Edit::InsertIntervention {
+            Edit::Insert {
                 branch,
-                generation,
+                acts,
                 cells,
-            } => self.insert_intervention(*branch, Acts::once(*generation), cells),
-            Edit::ChangeIntervention {
-                id,
-                generation,
-                cells,
-            } => self.change_intervention(*id, Acts::once(*generation), cells),
-            Edit::InsertRepeat {
-                branch,
-                first,
-                every,
-                last,
-                cells,
-            } => self.insert_intervention(*branch, Acts::every(*first, *every, *last), cells),
-            Edit::ChangeRepeat {
-                id,
-                first,
-                every,
-                last,
-                cells,
-            } => self.change_intervention(*id, Acts::every(*first, *every, *last), cells),
+            } => self.insert_intervention(*branch, *acts, cells),
+            Edit::Change { id, acts, cells } => self.change_intervention(*id, *acts, cells),
             Edit::RemoveIntervention { id } => Ok(self.remove_intervention(*id)),
             Edit::SetCells { cells } => self.set_cells(cells.as_slice()),
             Edit::ReplaceStart(start) => self.replace_start(start),

@@ -136,30 +136,12 @@ impl Document {
         ensures { Checks result (refusals self.now (asked_of edit.now)) }
     {
         match edit {
-            Edit::InsertIntervention {
+            Edit::Insert {
                 branch,
-                generation,
+                acts,
                 cells,
-            } => self.check_intervention(*branch, Acts::once(*generation), cells),
-            Edit::ChangeIntervention {
-                id,
-                generation,
-                cells,
-            } => self.check_changed_intervention(*id, Acts::once(*generation), cells),
-            Edit::InsertRepeat {
-                branch,
-                first,
-                every,
-                last,
-                cells,
-            } => self.check_intervention(*branch, Acts::every(*first, *every, *last), cells),
-            Edit::ChangeRepeat {
-                id,
-                first,
-                every,
-                last,
-                cells,
-            } => self.check_changed_intervention(*id, Acts::every(*first, *every, *last), cells),
+            } => self.check_intervention(*branch, *acts, cells),
+            Edit::Change { id, acts, cells } => self.check_changed_intervention(*id, *acts, cells),
             Edit::RemoveIntervention { id } => self.check_removed_intervention(*id),
             Edit::SetCells { cells } => self.check_cells(cells.as_slice()),
             Edit::ReplaceStart(start) => self.check_start(start),

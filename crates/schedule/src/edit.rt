@@ -1,5 +1,7 @@
 //! Edits of a document.
+ghost use Rattle.std.specs.Prelude.{◌≡◌};
 
+use crate::acts::Acts;
 use basics::Listing;
 use bookmarks::View;
 use plane_core::{CellSet, Plane};
@@ -9,36 +11,19 @@ use std::sync::Arc;
 /// A change that a user asks for.
 #[derive(Drop)]
 pub enum Edit {
-    /// Adds an intervention to a branch, at a generation from the branch's fork to 2^60. It sets at
-    /// most 10,000 cells in `-2^60 <= x, y < 2^60`; the last mention of a cell wins.
-    InsertIntervention {
+    /// Adds an intervention to a branch. It acts at generations from the branch's fork to 2^60; one
+    /// that repeats does so at a distance of 1 or more, and ends no earlier than it begins. It sets
+    /// at most 10,000 cells in `-2^60 <= x, y < 2^60`; the last mention of a cell wins.
+    Insert {
         branch: u64,
-        generation: u64,
+        acts: Acts,
         cells: Listing<CellSet>,
     },
-    /// Makes the intervention of this id act once, at this generation of its branch, with these
-    /// cells and the same limits.
-    ChangeIntervention {
+    /// Makes the intervention of this id act at these generations of its branch, with these cells
+    /// and the same limits.
+    Change {
         id: u64,
-        generation: u64,
-        cells: Listing<CellSet>,
-    },
-    /// Adds an intervention to a branch that acts at `first + i * every` for each i from 0, up to
-    /// `last`. `every` is at least 1, `first` at least the branch's fork, and `last` at least `first`
-    /// and at most 2^60; its cells have the limits of one that acts once.
-    InsertRepeat {
-        branch: u64,
-        first: u64,
-        every: u64,
-        last: u64,
-        cells: Listing<CellSet>,
-    },
-    /// Makes the intervention of this id a repeating one with these cells, with the same limits.
-    ChangeRepeat {
-        id: u64,
-        first: u64,
-        every: u64,
-        last: u64,
+        acts: Acts,
         cells: Listing<CellSet>,
     },
     /// Removes the intervention of this id, which isn't given again.
@@ -82,6 +67,65 @@ pub enum Edit {
     RemoveBranch {
         branch: u64,
     },
+}
+
+impl Edit {
+    /// Adds an intervention that acts once, at this generation, to a branch.
+    pub fn insert_intervention(branch: u64, generation: u64, cells: Listing<CellSet>) -> Edit
+        ensures { result ≡ Edit.Insert branch (Acts.Once generation) cells }
+    {
+        Edit::Insert {
+            branch,
+            acts: Acts::once(generation),
+            cells,
+        }
+    }
+
+    /// Adds an intervention that acts at `first + i * every` for each i from 0, up to `last`.
+    pub fn insert_repeat(
+        branch: u64,
+        first: u64,
+        every: u64,
+        last: u64,
+        cells: Listing<CellSet>,
+    ) -> Edit
+        ensures { result ≡ Edit.Insert branch (Acts.Every first every last) cells }
+    {
+        Edit::Insert {
+            branch,
+            acts: Acts::every(first, every, last),
+            cells,
+        }
+    }
+
+    /// Makes the intervention of this id act once, at this generation.
+    pub fn change_intervention(id: u64, generation: u64, cells: Listing<CellSet>) -> Edit
+        ensures { result ≡ Edit.Change id (Acts.Once generation) cells }
+    {
+        Edit::Change {
+            id,
+            acts: Acts::once(generation),
+            cells,
+        }
+    }
+
+    /// Makes the intervention of this id act at `first + i * every` for each i from 0, up to
+    /// `last`.
+    pub fn change_repeat(
+        id: u64,
+        first: u64,
+        every: u64,
+        last: u64,
+        cells: Listing<CellSet>,
+    ) -> Edit
+        ensures { result ≡ Edit.Change id (Acts.Every first every last) cells }
+    {
+        Edit::Change {
+            id,
+            acts: Acts::every(first, every, last),
+            cells,
+        }
+    }
 }
 
 /// What an accepted edit answers.

@@ -159,7 +159,7 @@ impl KeptLine {
         }
     }
 
-    // TakesBytes the carriage return that waited.
+    // Takes the carriage return that waited.
     fn settle(&mut self)
         ensures { (seen : List ℕ) → Saw self.old seen → Took self.new seen }
     {

@@ -3,8 +3,6 @@ pub mod Probing
 pub mod Shared
 pub mod Loading
 pub mod Listing
-pub mod Laying
-pub mod Middles
 pub mod Canonical
 pub mod Renumbered
 pub mod Packing

@@ -8,17 +8,9 @@ use Rattle.plane_core.proofs.Shared.Kids.{kid_is}
 use Rattle.square_table.specs.Squares.{IsNumber, square_in}
 use Rattle.square_table.specs.Loading.{number_in}
 use Rattle.square_table.proofs.Shared.Tables.{kept_row, last_row}
+use Rattle.square_table.proofs.Shared.Numbers.{IsNumber-state, square_in-cell}
 use Rattle.square_table.proofs.Shared.Making.{notes_joined, AreAmong-joined, IsFor, IsAmong-for}
 use Rattle.square_table.proofs.Shared.Growth.{Grows-same, Grows-then, IsNumber-grows, square_in-grows, AreNumbers-grows, square_of-grows, IsNumber-joined, square_in-joined}
-
--- numbers of cells
-pub IsNumber-state : (rows : List (List ℕ)) (n : ℕ) → n < first_number → IsNumber rows 0 n
-unfolding IsNumber
-IsNumber-state rows n h = h
-
-pub square_in-cell : (rows : List (List ℕ)) (n : ℕ) → square_in rows 0 n ≡ one n
-unfolding square_in
-square_in-cell rows n = refl
 
 pub empty_square-zero : empty_square 0 ≡ one 0
 unfolding empty_square

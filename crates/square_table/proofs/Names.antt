@@ -10,22 +10,19 @@ pub use Rattle.plane_core.specs.Centre.{centred}
 pub use Rattle.plane_core.specs.Rows.{AreCanonical, AreRows, AreSquaresOf, Fits, Numbered, completed, kid, no_row, number_row, numbered, root_level, root_of, same_kids, same_row, world_of_rows, written}
 pub use Rattle.plane_core.specs.declared.row.SquareRow.{SquareRow}
 pub use Rattle.square_table.specs.Centred.{CentredAlike, IsCentred, edge}
-pub use Rattle.square_table.specs.Laying.{AreLaidAs, IsLaidAs, IsLaidOn, in_corner, in_middle, in_quadrant, laid}
 pub use Rattle.square_table.specs.Loading.{AreBlanks, AreLoaded, CellsBelow, GrowsFor, GrowsFrom, HasRows, IsLoadedAt, IsLoading, IsRootLevel, LevelsUpTo, empty_below, number_in, row_square}
 pub use Rattle.square_table.specs.Made.{Adds, AreAmong, HasEmpty, IsAmong, IsMade}
 pub use Rattle.square_table.specs.Packing.{IsPacking, IsPadded, IsSeen, Packs, WalksFour, square_by}
 pub use Rattle.square_table.specs.Renumbering.{Stamps, known_of, known_range, with_known}
 pub use Rattle.square_table.specs.Rows.{kids_in, kids_of, note_in, note_range, notes_of}
 pub use Rattle.square_table.specs.Slots.{FindsRows, IsFreeFor, IsUsed, LeadsTo, first_of, mark_of, next_of, row_in, tag_in, tag_of, way}
-pub use Rattle.square_table.specs.Squares.{AllStatesBelow, AreDistinct, AreFour, AreNumbers, Grows, GrowsBy, IsHeld, IsNumber, IsSquareOf, Lacks, NumbersTellSquares, Table, Tells, cells_of, first_number, joined, kid_at, kids_at, level_of}
+pub use Rattle.square_table.specs.Squares.{AllStatesBelow, AreDistinct, AreFour, AreNumbers, Grows, GrowsBy, IsNumber, IsSquareOf, Lacks, NumbersTellSquares, Table, Tells, cells_of, first_number, joined, kid_at, kids_at, level_of}
 pub use Rattle.square_table.specs.Squares.{number_of, square_in, square_of, with_note, with_row, without_notes}
 pub use Rattle.square_table.specs.declared.pack.Quarters.{Quarters}
 pub use Rattle.square_table.specs.declared.row.Row.{Row}
 pub use Rattle.square_table.specs.declared.slots.Slot.{Slot}
-pub use Rattle.square_tree.specs.Cells.{Cells, least, reach, state_at}
-pub use Rattle.square_tree.specs.Quadtree.{HasLevel, Quadtree, at, cell, keep, quad, quadtree, quadtree_of_four}
-pub use Rattle.std.proofs.Common.{Bool, Contains, IfOk, IfSome, List, None, Option, Result, Some, [], add-one, ap, ap₂, arith, cond, drop, false, get_or, inl, inr, length, lit<, map, nat_lt, neg_ℤ, pos, refl, replicate, rules, slice_get}
-pub use Rattle.std.proofs.Common.{slice_index_or, slice_set, subst, suc, sym, take, true, unwrap_or, zero, ℕ, ℤ, ◌%◌, ◌*◌, ◌++◌, ◌+ℤ◌, ◌+◌, ◌-◌, ◌/◌, ◌<◌, ◌^◌, ◌||◌, ◌∙◌, ◌∷◌, ◌≡◌, ◌≤◌, ◌⊎◌}
+pub use Rattle.std.proofs.Common.{Bool, Contains, IfSome, List, None, Option, Some, [], add-one, ap, ap₂, arith, drop, false, get_or, inl, inr, length, lit<, map, neg_ℤ, pos, refl, replicate, rules, slice_get}
+pub use Rattle.std.proofs.Common.{slice_index_or, slice_set, subst, suc, sym, take, true, zero, ℕ, ℤ, ◌%◌, ◌*◌, ◌++◌, ◌+ℤ◌, ◌+◌, ◌-◌, ◌/◌, ◌<◌, ◌^◌, ◌∙◌, ◌∷◌, ◌≡◌, ◌≤◌, ◌⊎◌}
 pub use Rattle.std.proofs.lemmas.Bool.{cases_eq, cases_lt, eqb-true, le-leb}
 pub use Rattle.std.proofs.lemmas.Grind.{common_steps}
 pub use Rattle.std.proofs.lemmas.Int.{ints}

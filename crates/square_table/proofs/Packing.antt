@@ -15,17 +15,12 @@ use Rattle.square_table.specs.Packing.{IsFound}
 use Rattle.square_table.specs.declared.pack.Found.{Found}
 use Rattle.square_table.specs.declared.pack.Found.TheVariants as found
 use Rattle.square_table.specs.declared.pack.Packed.{Packed}
-use Rattle.square_table.proofs.Shared.Numbers.{one_level, one_number}
+use Rattle.square_table.proofs.Shared.Numbers.{one_level, one_number, square_in-IsSquare, square_in-cell}
 use Rattle.square_table.proofs.Shared.Tables.{above_zero}
 use Rattle.square_table.proofs.Shared.Growth.{AreNumbers-quadrants, square_in-quadrants}
-use Rattle.square_table.proofs.Laying.{square_in-IsSquare}
 use Rattle.square_table.proofs.Listing.{row_square-kept}
 use Rattle.square_table.proofs.Renumbered.{known_same, known_other}
-use Rattle.square_table.proofs.Loading.{square_in-cell, empty_square-zero, empty_square-suc}
-
--- four numbers of a level
-pub number_at : (rows : List (List ℕ)) (k : ℕ) (kids : List ℕ) (q : ℕ) → q < 4 → AreNumbers rows k kids → IsNumber rows k (get_or kids q 0)
-number_at q0 q1 q2 q3 q4 q5 = grind (arith)
+use Rattle.square_table.proofs.Loading.{empty_square-zero, empty_square-suc}
 
 -- the numbers of the quadrants of a square
 pub quadrant_numbers : (rows : List (List ℕ)) (k n : ℕ) (kids : List ℕ) → 0 < k → IsNumber rows k n → kids ≡ kids_at rows n → AreNumbers rows (k - 1) kids

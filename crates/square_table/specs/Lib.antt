@@ -3,7 +3,6 @@ pub mod Slots
 pub mod Squares
 pub mod Faults
 pub mod Centred
-pub mod Laying
 pub mod Loading
 pub mod Made
 pub mod Renumbering

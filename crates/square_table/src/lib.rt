@@ -12,13 +12,11 @@
 //! that whoever comes by the square reads both at the cost of one.
 //!
 //! `load` makes the square of a plane, by one look-up for each of its rows, and `pack` the plane of a
-//! square, by a step for each distinct square in it. `lay` lays a patch on a square, by one look-up
-//! for each divided square of the patch and for each level above it.
+//! square, by a step for each distinct square in it.
 #![tactic(auto)]
 
 mod fault;
 mod laws;
-mod lay;
 mod load;
 mod pack;
 mod renumbering;

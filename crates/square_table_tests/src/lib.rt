@@ -2,8 +2,6 @@
 #![tactic(auto)]
 
 #[cfg(test)]
-mod lays;
-#[cfg(test)]
 mod planes;
 #[cfg(test)]
 mod tests;

@@ -5,7 +5,6 @@ ghost use Rattle.worlds.specs.Range.{CanBeLaid};
 use bumpalo::Bump;
 use plane_core::Plane;
 use square_table::{SquareTable, TableFault};
-use square_tree::Patch;
 use std::alloc::Global;
 use std::process::Abort;
 use worlds::CellSet;
@@ -116,20 +115,4 @@ fn a_plane_finds_no_room_in_a_full_table(rt: HostRuntime) {
     is_refused(&rt, alloc, &[], 0);
     is_refused(&rt, alloc, &[set(0, 0, 1)], 0);
     is_refused(&rt, alloc, &[set(-EDGE, 0, 1)], 100);
-}
-
-#[test]
-fn what_is_laid_on_a_blank_square_is_what_is_loaded(rt: HostRuntime) {
-    let alloc = rt.alloc();
-    let arena = Bump::new(alloc);
-    let mut table = SquareTable::new(alloc, &arena, 64).expect(&rt, "memory");
-    let mut patch = Patch::new(alloc, 3);
-    patch.set(-3, 2, 255).expect(&rt, "memory");
-    patch.set(3, 2, 254).expect(&rt, "memory");
-    let blank = table.blank(3).expect(&rt, "room");
-    let laid = table.lay(blank, &patch).expect(&rt, "room");
-    let plane = plane_of(&rt, alloc, &[set(-3, 2, 255), set(3, 2, 254)]);
-    let loaded = table.load(&plane).expect(&rt, "room");
-    assert_eq!(&rt; laid.number(), loaded.number());
-    assert_eq!(&rt; laid.level(), loaded.level());
 }

@@ -3,7 +3,6 @@ pub mod Reaching
 pub mod Centring
 pub mod Joins
 pub mod Evolving
-pub mod Held
-pub mod Ends
-pub mod Spent
+pub mod Ways
+pub mod Shared
 pub mod Names

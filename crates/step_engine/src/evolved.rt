@@ -1,29 +1,10 @@
-//! What an engine answers.
+//! Why an engine refuses.
 
 use basics::Refusal;
 use hash_engine::ResultFault;
-use plane_core::Plane;
 use square_table::TableFault;
 use std::alloc::AllocError;
 use thiserror::Error;
-
-/// What an engine kept while it evolved a pattern; an engine that shares nothing reports zeros.
-#[derive(Clone, Copy, Debug, PartialEq, Eq)]
-pub struct Report {
-    /// How many distinct squares there were.
-    pub squares: u32,
-    /// How many of these were of 4 by 4 cells.
-    pub fours: u32,
-    /// How many of those were put to the rule.
-    pub base: u32,
-}
-
-/// A pattern some generations later, and what the engine reports of the way.
-#[derive(Drop)]
-pub struct Evolved {
-    pub plane: Plane,
-    pub report: Report,
-}
 
 /// Why a pattern was not evolved.
 #[derive(Clone, Copy, Debug, PartialEq, Eq, Error)]

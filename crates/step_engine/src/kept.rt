@@ -13,16 +13,13 @@ use crate::allowance::Allowance;
 use crate::evolved::EvolveFault;
 use crate::pace::Leap;
 use crate::padding::rooted;
-use crate::shared::no_squares;
+use crate::room::{MOST_SQUARES, no_squares};
 use bumpalo::Bump;
 use hash_engine::{Asking, Memo, search};
 use plane_core::{Ask, Next, Plane, Stop};
 use square_table::{Square, SquareTable};
 use std::alloc::{AllocError, Global};
 use std::marker::Model;
-
-// A table holds no more.
-const MOST_SQUARES: u32 = 16777216;
 
 // A plane, and one of its squares round the origin.
 #[derive(Drop)]
@@ -147,13 +144,14 @@ impl<'a, R: Next> Engine<'a, R> {
         self.limit
     }
 
-    /// The plane `generations` later, as `evolve` gives it under the engine's rule, whatever the
-    /// engine evolved before.
+    /// The plane `generations` later under the engine's rule, whatever the engine evolved before.
     ///
+    /// The plane's states are below the rule's, and it fits. The stop is asked before each result that
+    /// isn't known yet, and Stopped is answered where it says yes; NoMemory where a growth was refused.
     /// Where there is no room for another square beside those of earlier calls, all of them are given
-    /// up, and the plane is evolved once more: so NoRoom means what it means for `evolve`. Results by
-    /// as many generations as `generations` decides stay while calls are by the same number, and
-    /// those by 2^k generations until squares are given up.
+    /// up, and the plane is evolved once more: so NoRoom comes only where the squares on the way alone
+    /// are more than the engine may hold. Results by as many generations as `generations` decides stay
+    /// while calls are by the same number, and those by 2^k generations until squares are given up.
     pub fn evolve<S: Stop>(
         &mut self,
         plane: &Plane,

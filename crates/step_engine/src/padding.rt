@@ -82,7 +82,7 @@ fn start<'a>(
 
 /// The square of a plane round the origin, at the least level at which its middle has room for so
 /// many generations. Where one of its squares is known, none of the plane's rows is looked up.
-pub(crate) fn rooted<'a>(
+pub fn rooted<'a>(
     table: &mut SquareTable<'a>,
     known: Option<Square<'a>>,
     plane: &Plane,

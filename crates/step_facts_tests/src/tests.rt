@@ -5,6 +5,7 @@ ghost use Rattle.revision_jobs.specs.Value.{CanBeStepped, world_after};
 ghost use Rattle.step_engine.specs.Evolved.{CanEvolve};
 
 use basics::Listing;
+use plain_engine::evolve_plain;
 use plane_core::{Next, NoStop, Plane};
 use revision_jobs::Step;
 use rule_tree::Rule;
@@ -12,7 +13,7 @@ use std::alloc::Global;
 use std::num::NonZeroUsize;
 use std::process::Abort;
 use std::sync::Arc;
-use step_engine::{evolve_plain, fits};
+use step_engine::fits;
 use step_facts::Facts;
 use test_planes::{all_can_be_laid, is_below, plane_of, sets_of};
 

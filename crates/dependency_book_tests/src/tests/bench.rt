@@ -270,47 +270,23 @@ impl<'e> Bench<'e> {
 
     fn insert(&mut self, rt: &impl Abort, branch: u64, generation: u64, set: CellSet) {
         let cells = listed(rt, self.alloc, set);
-        self.revise(
-            rt,
-            &Edit::InsertIntervention {
-                branch,
-                generation,
-                cells,
-            },
-        );
+        self.revise(rt, &Edit::insert_intervention(branch, generation, cells));
     }
 
     fn change(&mut self, rt: &impl Abort, id: u64, generation: u64, set: CellSet) {
         let cells = listed(rt, self.alloc, set);
-        let edit = Edit::ChangeIntervention {
-            id,
-            generation,
-            cells,
-        };
-        self.revise(rt, &edit);
+        self.revise(rt, &Edit::change_intervention(id, generation, cells));
     }
 
     fn repeat(&mut self, rt: &impl Abort, branch: u64, times: Times, set: CellSet) {
         let cells = listed(rt, self.alloc, set);
-        let edit = Edit::InsertRepeat {
-            branch,
-            first: times.0,
-            every: times.1,
-            last: times.2,
-            cells,
-        };
+        let edit = Edit::insert_repeat(branch, times.0, times.1, times.2, cells);
         self.revise(rt, &edit);
     }
 
     fn change_repeat(&mut self, rt: &impl Abort, id: u64, times: Times, set: CellSet) {
         let cells = listed(rt, self.alloc, set);
-        let edit = Edit::ChangeRepeat {
-            id,
-            first: times.0,
-            every: times.1,
-            last: times.2,
-            cells,
-        };
+        let edit = Edit::change_repeat(id, times.0, times.1, times.2, cells);
         self.revise(rt, &edit);
     }
 

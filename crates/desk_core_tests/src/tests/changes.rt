@@ -76,18 +76,12 @@ pub(super) fn edit_of(rt: &impl Abort, alloc: Global, change: Change) -> Edit {
         Change::Set(rows) => Edit::SetCells {
             cells: cells_of(rt, alloc, rows),
         },
-        Change::Insert(generation) => Edit::InsertIntervention {
-            branch: 0,
-            generation,
-            cells: cells_of(rt, alloc, &[(0, 0, 1)]),
-        },
-        Change::Repeat { first, every, last } => Edit::InsertRepeat {
-            branch: 0,
-            first,
-            every,
-            last,
-            cells: cells_of(rt, alloc, &[(0, 0, 1)]),
-        },
+        Change::Insert(generation) => {
+            Edit::insert_intervention(0, generation, cells_of(rt, alloc, &[(0, 0, 1)]))
+        }
+        Change::Repeat { first, every, last } => {
+            Edit::insert_repeat(0, first, every, last, cells_of(rt, alloc, &[(0, 0, 1)]))
+        }
         Change::Remove(id) => Edit::RemoveIntervention { id },
         Change::Mark(generation) => counts_at(0, generation),
         Change::MarkIn { branch, generation } => counts_at(branch, generation),

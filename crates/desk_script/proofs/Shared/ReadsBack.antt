@@ -284,7 +284,7 @@ insert-line : (b : ℕ) (acts : Acts) (cs : List CellSet) → IsCount b → AreC
 insert-line b (Once generation) cs h k w =
     reads (Insert b (Once generation) cs)
     (codes "on" ∷ decimal b ∷ codes "at" ∷ decimal generation ∷ codes "set" ∷ words_of_cells cs)
-    (edit.InsertIntervention b generation cs)
+    (edit.Insert b (Once generation) cs)
     (line-more (codes "on") _ _ (letters (codes "on") (omega arith) refl)
     (line-more (decimal b) _ _ (number b h)
     (line-more (codes "at") _ _ (letters (codes "at") (omega arith) refl)
@@ -296,7 +296,7 @@ insert-line b (Every first every last) cs h k w =
     reads (Insert b (Every first every last) cs)
     (codes "on" ∷ decimal b ∷ codes "every" ∷ decimal every ∷ decimal first ∷ decimal last ∷ codes "set"
     ∷ words_of_cells cs)
-    (edit.InsertRepeat b first every last cs)
+    (edit.Insert b (Every first every last) cs)
     (line-more (codes "on") _ _ (letters (codes "on") (omega arith) refl)
     (line-more (decimal b) _ _ (number b h)
     (line-more (codes "every") _ _ (letters (codes "every") (omega arith) refl)

@@ -1,12 +1,12 @@
 -- Which edits lines ask for.
 use Rattle.desk_script.proofs.Names.{AddBranch, AllByRecursion, Ask, Asked, Between, Bool, Broken, CellSet, Change, Command, Edit, End, Ended, Format, IfSome, InText, Insert, IsCount, IsWrittenDistance, Line, LinePlace, List, None, Obey}
-use Rattle.desk_script.proofs.Names.{Option, ReplaceRule, Some, Take, View, [], adds_branch, alone, arith, asked_at, asked_by, asked_of, asks, bytes_eq, cells_of, cells_set, change_named, change_of, changed_by, codes, command_of}
-use Rattle.desk_script.proofs.Names.{command_of_words, cond, counted, edit_by, edit_in_branch, edit_in_named, false, format_of, further_edit_by, is_end, is_passed_over, length, looking_by, min, on_of, one_count, option_map, option_zip}
+use Rattle.desk_script.proofs.Names.{Option, ReplaceRule, Some, Take, View, [], acting_of, adds_branch, alone, arith, asked_at, asked_by, asked_of, asks, bytes_eq, cells_of, cells_set, change_of, codes, command_of}
+use Rattle.desk_script.proofs.Names.{command_of_words, cond, counted, edit_by, edit_in_branch, edit_in_named, false, format_of, further_edit_by, inserted, is_end, is_passed_over, length, looking_by, min, on_of, once_by, once_of, one_count, option_map, option_zip}
 use Rattle.desk_script.proofs.Names.{place_behind, repeated_by, repeated_of, some_cells, true, view_of, words, ℕ, ◌++◌, ◌+◌, ◌-◌, ◌<◌, ◌^◌, ◌∷◌, ◌≡◌}
 use Rattle.std.specs.Prelude.{⊤}
 use Rattle.schedule.specs.declared.edit.Edit.TheVariants as edit
 use Rattle.schedule.proofs.Shared.Changed.{HasStates}
-use Rattle.desk_script.specs.declared.interventions.Repeated.{Repeated}
+use Rattle.desk_script.specs.declared.interventions.Acting.{Acting}
 use Rattle.desk_script.specs.declared.command.Command.TheVariants as command
 
 -- the edit adds no branch
@@ -55,24 +55,41 @@ counted-if : {A : Type 0} (P : A → Type 0) (named : List (List ℕ) → Option
     → IfSome (counted named ws) (λ r. IsCount r.0 × P r.1)
 counted-if P named h ws = grind (arith, zip-if, count-small)
 
-once-some : (ws : List (List ℕ)) → IfSome (counted cells_set ws) (λ r. IsCount r.0 × (0 < length r.1))
-once-some ws = counted-if (λ cs. 0 < length cs) cells_set cells-some ws
+-- an intervention of words sets a cell, at a distance of 64 bits if it repeats
+abbrev SetsCell : Acting → Type 0
+SetsCell acting = (0 < length acting.cells) × IsWrittenDistance acting.acts
+
+once-by : (o : Option (ℕ × List CellSet)) → IfSome o (λ r. IsCount r.0 × (0 < length r.1))
+    → IfSome (option_map once_by o) SetsCell
+once-by o h = grind (arith)
+
+one-some : (ws : List (List ℕ)) → IfSome (counted cells_set ws) (λ r. IsCount r.0 × (0 < length r.1))
+one-some ws = counted-if (λ cs. 0 < length cs) cells_set cells-some ws
+
+once-some : (ws : List (List ℕ)) → IfSome (once_of ws) SetsCell
+once-some ws = once-by (counted cells_set ws) (one-some ws)
 
 repeated-by : (o : Option (ℕ × (ℕ × (ℕ × List CellSet))))
     → IfSome o (λ r. IsCount r.0 × (IsCount r.1.0 × (IsCount r.1.1.0 × (0 < length r.1.1.1))))
-    → IfSome (option_map repeated_by o) (λ (r : Repeated). IsCount r.every × (0 < length r.cells))
+    → IfSome (option_map repeated_by o) SetsCell
 repeated-by o h = grind (arith)
 
-repeated-some : (ws : List (List ℕ)) → IfSome (repeated_of ws) (λ (r : Repeated). IsCount r.every × (0 < length r.cells))
+repeated-some : (ws : List (List ℕ)) → IfSome (repeated_of ws) SetsCell
 repeated-some ws = repeated-by (counted (counted (counted cells_set)) ws)
     (counted-if (λ r. IsCount r.0 × (IsCount r.1.0 × (0 < length r.1.1))) (counted (counted cells_set))
-    (counted-if (λ r. IsCount r.0 × (0 < length r.1)) (counted cells_set) once-some) ws)
+    (counted-if (λ r. IsCount r.0 × (0 < length r.1)) (counted cells_set) one-some) ws)
 
-branch-if : (adds : Bool) (b : ℕ) (u v w : Bool) (o : Option (ℕ × List CellSet)) (q : Option Repeated)
-    (m : Option (ℕ × View)) → IfSome o (λ r. IsCount r.0 × (0 < length r.1))
-    → IfSome q (λ (r : Repeated). IsCount r.every × (0 < length r.cells))
-    → SaysSuch adds (cond u (option_map (λ r. edit.InsertIntervention b r.0 r.1) o)
-    (cond v (option_map (λ (r : Repeated). edit.InsertRepeat b r.first r.every r.last r.cells) q)
+acting-if : (b : Bool) (q o : Option Acting) → IfSome q SetsCell → IfSome o SetsCell → IfSome (cond b q o) SetsCell
+acting-if b q o h k = grind (arith)
+
+acting-some : (ws : List (List ℕ)) → IfSome (acting_of ws) SetsCell
+acting-some [] = tt
+acting-some (word ∷ rest) = acting-if (bytes_eq word (codes "every")) (repeated_of rest) (once_of (word ∷ rest))
+    (repeated-some rest) (once-some (word ∷ rest))
+
+branch-if : (adds : Bool) (b : ℕ) (u v w : Bool) (o q : Option Acting) (m : Option (ℕ × View))
+    → IfSome o SetsCell → IfSome q SetsCell
+    → SaysSuch adds (cond u (option_map (inserted b) o) (cond v (option_map (inserted b) q)
     (cond w (option_map (λ r. edit.AddBookmark b r.0 r.1) m) None)))
 branch-if adds b u v w o q m h k = grind (arith)
 
@@ -80,7 +97,7 @@ in_branch-says : (adds : Bool) (b : ℕ) (word : List ℕ) (rest : List (List �
     → SaysSuch adds (edit_in_branch b word rest)
 in_branch-says adds b word rest = branch-if adds b (bytes_eq word (codes "at"))
     (bytes_eq word (codes "every"))
-    (bytes_eq word (codes "mark")) (counted cells_set rest) (repeated_of rest) (counted view_of rest)
+    (bytes_eq word (codes "mark")) (once_of rest) (repeated_of rest) (counted view_of rest)
     (once-some rest) (repeated-some rest)
 
 named-says : (adds : Bool) (b : Option ℕ) (rest : List (List ℕ)) → SaysSuch adds (edit_in_named b rest)
@@ -103,24 +120,12 @@ further-says word rest = further-if (bytes_eq word (codes "move")) (bytes_eq wor
     (bytes_eq word (codes "branch")) (bytes_eq word (codes "unbranch")) (counted one_count rest)
     (one_count rest) (edit_in_branch 0 word rest) (in_branch-says false 0 word rest)
 
-changed-if : (adds : Bool) (id : ℕ) (u : Bool) (q : Option Repeated) (o : Option (ℕ × List CellSet))
-    → IfSome q (λ (r : Repeated). IsCount r.every × (0 < length r.cells))
-    → IfSome o (λ r. IsCount r.0 × (0 < length r.1))
-    → SaysSuch adds (cond u (option_map
-    (λ (r : Repeated). edit.ChangeRepeat id r.first r.every r.last r.cells) q)
-    (option_map (λ r. edit.ChangeIntervention id r.0 r.1) o))
-changed-if adds id u q o h k = grind (arith)
-
-changed-says : (adds : Bool) (id : ℕ) (rest : List (List ℕ)) → SaysSuch adds (changed_by id rest)
-changed-says adds id [] = tt
-changed-says adds id (word ∷ rest) = changed-if adds id (bytes_eq word (codes "every")) (repeated_of rest)
-    (counted cells_set (word ∷ rest)) (repeated-some rest) (once-some (word ∷ rest))
-
-change_named-says : (adds : Bool) (id : Option ℕ) (rest : List (List ℕ)) → SaysSuch adds (change_named id rest)
-change_named-says adds id rest = grind (arith, changed-says)
+changed-if : (adds : Bool) (o : Option (ℕ × Acting)) → IfSome o (λ r. IsCount r.0 × SetsCell r.1)
+    → SaysSuch adds (option_map (λ r. edit.Change r.0 r.1.acts r.1.cells) o)
+changed-if adds o h = grind (arith)
 
 change-says : (adds : Bool) (rest : List (List ℕ)) → SaysSuch adds (change_of rest)
-change-says adds rest = grind (arith, change_named-says)
+change-says adds rest = changed-if adds (counted acting_of rest) (counted-if SetsCell acting_of acting-some rest)
 
 edit-if : (adds a b c d : Bool) (cells : Option (List CellSet)) (i : Option ℕ)
     (on change further : Option Edit) → SaysSuch adds on → SaysSuch adds change → SaysSuch adds further
@@ -140,17 +145,17 @@ abbrev SaysCommand : Bool → Option Command → Type 0
 SaysCommand adds (Some (command.Edit edit)) = IsSaid adds (asked_of edit)
 SaysCommand adds _ = ⊤
 
-looking-if : (adds a b c d : Bool) (i : Option ℕ) (rest : List (List ℕ)) (e : Option Edit) → SaysSuch adds e
+looking-if : (adds a b c d f : Bool) (i : Option ℕ) (rest : List (List ℕ)) (e : Option Edit) → SaysSuch adds e
     → SaysCommand adds (cond a (option_map command.Peek i) (cond b (alone (Some command.Poll) rest)
     (cond c (alone (Some command.List) rest) (cond d (alone (Some command.Script) rest)
-    (option_map command.Edit e)))))
-looking-if adds a b c d i rest e h = grind (arith)
+    (cond f (alone (Some command.Help) rest) (option_map command.Edit e))))))
+looking-if adds a b c d f i rest e h = grind (arith)
 
 looking-says : (word : List ℕ) (rest : List (List ℕ))
     → SaysCommand (bytes_eq word (codes "branch")) (looking_by word rest)
 looking-says word rest = looking-if (bytes_eq word (codes "branch")) (bytes_eq word (codes "peek"))
     (bytes_eq word (codes "poll")) (bytes_eq word (codes "list")) (bytes_eq word (codes "script"))
-    (one_count rest) rest (edit_by word rest) (edit-says word rest)
+    (bytes_eq word (codes "help")) (one_count rest) rest (edit_by word rest) (edit-says word rest)
 
 words-if : (adds a b c d : Bool) (i : Option ℕ) (rest : List (List ℕ)) (looks : Option Command)
     → SaysCommand adds looks

@@ -2,6 +2,7 @@
 use crate::tests::devices::Pieces;
 use crate::tests::first::{FIRST, FIRST_REPLIES};
 use crate::tests::{Row, answers, row_is_answered};
+use script_help::command_list;
 use std::alloc::Global;
 use std::process::Abort;
 use std::sync::Wait;
@@ -52,6 +53,11 @@ const SCRIPTS: &[Row] = &[
     Row {
         script: b"list\nlist 1\npoll 1\npeek\npeek 1 2\n",
         replies: b"listed 0\nrefused 80 BadCommand 2\nrefused 80 BadCommand 3\nrefused 80 BadCommand 4\nrefused 80 BadCommand 5\n",
+    },
+    // No word may stand behind the one that asks for the commands.
+    Row {
+        script: b"help 1\nhelps\nHelp\nhelp help\non 0 help\n",
+        replies: b"refused 80 BadCommand 1\nrefused 80 BadCommand 2\nrefused 80 BadCommand 3\nrefused 80 BadCommand 4\nrefused 80 BadCommand 5\n",
     },
     // Texts without their end.
     Row {
@@ -112,6 +118,19 @@ fn scripts_are_answered(rt: HostRuntime) {
     for row in SCRIPTS {
         row_is_answered(&rt, alloc, row);
     }
+}
+
+#[test]
+fn help_lists_the_commands_and_changes_nothing(rt: HostRuntime) {
+    let alloc = rt.alloc();
+    let list = command_list();
+    let size = list.len();
+    let is_list = list.starts_with("Commands of a script,") && list.contains("\n  help  ");
+    assert!(&rt; is_list, "{list}");
+    let wanted = format!(in alloc; "ok 1\nhelp {size}\n{list}ok 2\nhelp {size}\n{list}bye\n");
+    let wanted = wanted.expect(&rt, "memory");
+    let script = b"set 0 0 1\nhelp\nset 0 0 1\n \thelp \r\nquit\n";
+    answers(&rt, alloc, Pieces::whole(script), wanted.as_bytes());
 }
 
 fn first_by(rt: &(impl Abort + Wait), alloc: Global, size: usize) {

@@ -1,11 +1,11 @@
-use super::rules::{Countdown, Life};
 use super::same;
-use super::squares::{Place, is_below, is_number, square_of};
 use bumpalo::Bump;
-use hash_engine::{Asking, ResultFault, result};
+use hash_engine::{Asking, Memo, ResultFault, search};
 use square_table::{SquareTable, TableFault};
 use std::alloc::Global;
 use std::process::Abort;
+use test_rules::{Countdown, Life};
+use test_squares::{Place, is_below, is_number, square_of};
 
 const ROW: &[Place] = &[(14, 16), (15, 16), (16, 16), (17, 16), (18, 16)];
 
@@ -22,12 +22,14 @@ fn expect_end(
     let arena = Bump::new(alloc);
     let mut table = SquareTable::new(alloc, &arena, limit.min(100_000)).expect(rt, "memory");
     let number = square_of(&mut table, 5, 0, 0, ROW).expect(rt, "room");
+    table.forget_notes();
     assert!(rt; is_number(&table, 5, number));
     assert!(rt; is_below(&table, 5, number, 2));
     let root = table.square(5, number).expect(rt, "memory");
+    let mut memo = Memo::nothing(alloc);
     let mut rule = Asking::new(&Life);
     let mut stop = Countdown { left };
-    let ended = result(alloc, &mut table, &mut rule, root, 8, &mut stop);
+    let ended = search(&mut table, &mut memo, &mut rule, root, 8, &mut stop);
     same(rt, &ended.err(), &wanted, &limit);
     same(rt, &stop.left, &stays, &left);
 }

@@ -1,11 +1,12 @@
 //! Rules, by tables and by trees.
 use super::{expect_next, same};
 use basics::Refusal;
+use plain_engine::evolve_plain;
 use plane_core::{Next, NoStop};
 use rule_tree::Rule;
 use std::alloc::Global;
 use std::process::Abort;
-use step_engine::{evolve_plain, fits};
+use step_engine::fits;
 use test_planes::{is_below, plane_of, rows_of};
 
 // A cell is 1 next where exactly one of its neighbours is. Two of the eight cases are left to the

@@ -15,19 +15,11 @@ fn remove(branch: u64) -> Edit {
 }
 
 fn insert_on(rt: &impl Abort, alloc: Global, branch: u64, generation: u64, x: i64) -> Edit {
-    Edit::InsertIntervention {
-        branch,
-        generation,
-        cells: cells_of(rt, alloc, &[(x, 0, 1)]),
-    }
+    Edit::insert_intervention(branch, generation, cells_of(rt, alloc, &[(x, 0, 1)]))
 }
 
 fn change(rt: &impl Abort, alloc: Global, id: u64, generation: u64) -> Edit {
-    Edit::ChangeIntervention {
-        id,
-        generation,
-        cells: cells_of(rt, alloc, &[(0, 0, 1)]),
-    }
+    Edit::change_intervention(id, generation, cells_of(rt, alloc, &[(0, 0, 1)]))
 }
 
 fn moved(id: u64, generation: u64) -> Edit {

@@ -12,19 +12,11 @@ fn insert(rt: &impl Abort, alloc: Global, generation: u64) -> Edit {
 }
 
 fn insert_cells(rt: &impl Abort, alloc: Global, generation: u64, rows: &[Row]) -> Edit {
-    Edit::InsertIntervention {
-        branch: 0,
-        generation,
-        cells: cells_of(rt, alloc, rows),
-    }
+    Edit::insert_intervention(0, generation, cells_of(rt, alloc, rows))
 }
 
 fn change(rt: &impl Abort, alloc: Global, id: u64, generation: u64, rows: &[Row]) -> Edit {
-    Edit::ChangeIntervention {
-        id,
-        generation,
-        cells: cells_of(rt, alloc, rows),
-    }
+    Edit::change_intervention(id, generation, cells_of(rt, alloc, rows))
 }
 
 /// What an accepted edit answers that makes something with an id.

@@ -10,39 +10,21 @@ use std::process::Abort;
 type Times = (u64, u64, u64);
 
 fn repeat(rt: &impl Abort, alloc: Global, branch: u64, times: Times, rows: &[Row]) -> Edit {
-    Edit::InsertRepeat {
-        branch,
-        first: times.0,
-        every: times.1,
-        last: times.2,
-        cells: cells_of(rt, alloc, rows),
-    }
+    let cells = cells_of(rt, alloc, rows);
+    Edit::insert_repeat(branch, times.0, times.1, times.2, cells)
 }
 
 fn change_repeat(rt: &impl Abort, alloc: Global, id: u64, times: Times, rows: &[Row]) -> Edit {
-    Edit::ChangeRepeat {
-        id,
-        first: times.0,
-        every: times.1,
-        last: times.2,
-        cells: cells_of(rt, alloc, rows),
-    }
+    let cells = cells_of(rt, alloc, rows);
+    Edit::change_repeat(id, times.0, times.1, times.2, cells)
 }
 
 fn once(rt: &impl Abort, alloc: Global, branch: u64, generation: u64) -> Edit {
-    Edit::InsertIntervention {
-        branch,
-        generation,
-        cells: cells_of(rt, alloc, &[(0, 0, 1)]),
-    }
+    Edit::insert_intervention(branch, generation, cells_of(rt, alloc, &[(0, 0, 1)]))
 }
 
 fn change_once(rt: &impl Abort, alloc: Global, id: u64, generation: u64) -> Edit {
-    Edit::ChangeIntervention {
-        id,
-        generation,
-        cells: cells_of(rt, alloc, &[]),
-    }
+    Edit::change_intervention(id, generation, cells_of(rt, alloc, &[]))
 }
 
 fn fork(parent: u64, generation: u64) -> Edit {

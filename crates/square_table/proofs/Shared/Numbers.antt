@@ -1,6 +1,22 @@
 -- Numbers and the squares that they stand for.
-use Rattle.square_table.proofs.Names.{AreDistinct, List, NumbersTellSquares, ap, arith, common_steps, first_number, get_or, kid_at, kids_at, length, refl, suc, zero, ℕ, ◌-◌, ◌<◌, ◌≡◌}
+use Rattle.square_table.proofs.Names.{AreDistinct, List, NumbersTellSquares, ap, arith, common_steps, first_number, get_or, kid_at, kids_at, length, one, refl, suc, zero, ℕ, ◌-◌, ◌<◌, ◌≡◌}
+use Rattle.worlds.specs.Square.{IsSquare}
 use Rattle.square_table.specs.Squares.{IsNumber, square_in}
+
+-- numbers of cells
+pub IsNumber-state : (rows : List (List ℕ)) (n : ℕ) → n < first_number → IsNumber rows 0 n
+unfolding IsNumber
+IsNumber-state rows n h = h
+
+pub square_in-cell : (rows : List (List ℕ)) (n : ℕ) → square_in rows 0 n ≡ one n
+unfolding square_in
+square_in-cell rows n = refl
+
+-- a square of a table has the shape of its level
+pub square_in-IsSquare : (rows : List (List ℕ)) (k n : ℕ) → IsNumber rows k n → IsSquare k (square_in rows k n)
+unfolding IsNumber square_in IsSquare
+square_in-IsSquare rows zero n h = h
+square_in-IsSquare rows (suc k) n h = (square_in-IsSquare rows k _ h.2, square_in-IsSquare rows k _ h.3, square_in-IsSquare rows k _ h.4, square_in-IsSquare rows k _ h.5)
 
 -- a number has one level
 pub one_level : (rows : List (List ℕ)) (j k n : ℕ) → IsNumber rows j n → IsNumber rows k n → j ≡ k

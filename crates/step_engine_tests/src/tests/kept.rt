@@ -1,11 +1,12 @@
-use super::engine::{ONE, is_below};
-use super::rules::{Countdown, OneOfTwo, Star};
-use super::{Row, plane_of, same};
+use super::{ONE, plane_of, same};
 use bumpalo::Bump;
+use counted_engine::evolve;
 use plane_core::{Next, NoStop, Plane};
 use std::alloc::Global;
 use std::process::Abort;
-use step_engine::{Engine, EvolveFault, evolve, fits};
+use step_engine::{Engine, EvolveFault, fits};
+use test_planes::{Row, is_below};
+use test_rules::{Countdown, OneOfTwo, Star};
 
 const MANY: u64 = 1 << 20;
 

@@ -1,11 +1,12 @@
-use super::engine::{ONE, is_below};
-use super::rules::{Copying, OneOfTwo};
-use super::{Row, plane_of, same};
+use super::{ONE, plane_of, same};
 use bumpalo::Bump;
+use plain_engine::evolve_plain;
 use plane_core::{Next, NoStop, Plane};
 use std::alloc::Global;
 use std::process::Abort;
-use step_engine::{Engine, EvolveFault, evolve_plain, fits};
+use step_engine::{Engine, EvolveFault, fits};
+use test_planes::{Row, is_below};
+use test_rules::{Copying, OneOfTwo};
 
 const WEST: usize = 7;
 

@@ -1,11 +1,12 @@
 use super::kept::expect_alike;
-use super::rules::{OneOfTwo, Star};
-use super::{Row, plane_of};
+use super::plane_of;
 use bumpalo::Bump;
 use plane_core::{Next, Plane};
 use std::alloc::Global;
 use std::process::Abort;
 use step_engine::Engine;
+use test_planes::Row;
+use test_rules::{OneOfTwo, Star};
 
 const SEQUENCES: u64 = 100;
 

@@ -22,5 +22,5 @@ pub returns-in_default : goal.returns-in_default
 returns-in_default g c =
     let issued = rw c.in-Ok-Some.field-0-is at c.in-Ok-Some.ensures.issued in
     fed-refused _ _ _ _ _ _ _ _ _ _ _ issued.1 c.issue.ensures.right
-    (record { rows = c.cancel.ensures.rows; book = c.cancel.ensures.book }) c.in_default.not-Taken c.send.ensures
-    c.loop-job.invariant.fed c.cancel.ensures.right
+    (record { rows = c.cancel.ensures.rows; book = c.cancel.ensures.book; event = c.cancel.ensures.event })
+    c.in_default.not-Taken c.send.ensures c.loop-job.invariant.fed c.cancel.ensures.right

@@ -17,6 +17,7 @@ returns g c =
       keeps = Keeps-come _ _ _ _ _ refl come;
       post = ServesOn-come _ _ _ _ _ refl come;
       cause = come.told;
+      calls = come.calls;
       polls = record {
         met = None;
         post = q;

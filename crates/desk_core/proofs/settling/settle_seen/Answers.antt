@@ -1,6 +1,6 @@
 use Rattle.desk_core.proofs.Names.{none_pending, ◌∙◌}
 use Rattle.desk_core.proofs.Steps.{serves-whole, settles-whole, whole}
-use Rattle.desk_core.proofs.Turns.{cause-left, caused-so, ends-so, why-left}
+use Rattle.desk_core.proofs.Turns.{cause-left, caused-so, ends-so, tells-so, why-left}
 use Rattle.desk_core.proofs.settling.settle_seen.Goals as goal
 
 pub returns-clause-settles : goal.returns-clause-settles
@@ -16,8 +16,8 @@ returns-clause-ends g c =
     let run = c.run-unsent in
     let p = g.P.Post.view c.args.post.now in
     let q = g.P.Post.view run.new.post in
-    let told = (whole c.args.desk.now run.new.desk c.cancel.new.desk p q run.result run.ensures.comes
-    c.cancel.ensures).told in
+    let come = whole c.args.desk.now run.new.desk c.cancel.new.desk p q run.result run.ensures.comes c.cancel.ensures in
+    let told = come.told in
     record {
       later = told.later;
       gave = told.gave;
@@ -26,6 +26,9 @@ returns-clause-ends g c =
           (λ some. why-left c.args.turns c.args.desk.now run.new.desk c.cancel.new.desk p q run.result
           c.pending.result told.later
           run.ensures.ended c.cancel.ensures c.pending.ensures.count some told.explained told.stopped);
+      first = run.result.cause;
+      calls = come.calls;
+      tells = tells-so c.pending.result run.result.cause _ c.ending.ensures;
     }
 
 pub returns-clause-caused : goal.returns-clause-caused

@@ -1,6 +1,11 @@
-use Rattle.desk_server.proofs.Replies.{serves-memory, serves-refused, none-lacks}
+use Rattle.desk_server.proofs.Replies.{serves-memory, serves-refused, serves_taken, none-lacks}
 use Rattle.desk_server.proofs.Noted.{looked_none, looked_refused, looked_taken}
 use Rattle.desk_server.proofs.serve.serve.Goals as goal
+
+pub returns-in-Take-clause-answer : goal.returns-in-Take-clause-answer
+returns-in-Take-clause-answer g c =
+    serves_taken (g.P.Post.view c.args.post.now).is_prompt c.args.request c.in-Take.format c.in-Take.text
+    c.take_text.result c.args.desk.now c.take_text.new.desk c.args.rule.now c.in-Take.is c.take_text.ensures.answer
 
 pub returns-in-Refuse-clause-answer : goal.returns-in-Refuse-clause-answer
 returns-in-Refuse-clause-answer g c =

@@ -1,8 +1,8 @@
-use Rattle.desk_server.proofs.Names.{Works, ap, ends, moment, opening_session, refl, rules, session, subst, sym, wrote_is_err, wrote_is_ok, ◌+◌, ◌∙◌, ◌≡◌, ◌≢◌}
+use Rattle.desk_server.proofs.Names.{AnswersAtDesks, AnswersAtEach, Works, ap, ends, moment, opening_session, refl, rules, session, subst, sym, wrote_is_err, wrote_is_ok, ◌+◌, ◌∙◌, ◌≡◌, ◌≢◌}
 use Rattle.script_lines.specs.Input.{FailsOrFull}
 use Rattle.desk_server.specs.declared.reply.Reply.TheVariants as reply
 use Rattle.desk_server.proofs.Jobs.{carries_further}
-use Rattle.desk_server.proofs.Noted.{notes_join, notes_none, notes_one, notes_same}
+use Rattle.desk_server.proofs.Noted.{at_desks, at_desks_then, at_one, notes_join, notes_none, notes_one, notes_same}
 use Rattle.desk_server.proofs.Rounds.{answers_none, answers_answers, answers_finishes, answers_stops, answers_breaks, begun, begun_watched, completed, stops_front, served}
 use Rattle.desk_server.proofs.Rounds.{goes_on_silent, done_silent, goes_on_told, done_last, done_bye, stops_telling, works_then, opens, bye-ends, goes-on}
 use Rattle.desk_server.proofs.server.answer_commands.Goals as goal
@@ -41,7 +41,10 @@ pub returns-in_default-clause-read : goal.returns-in_default-clause-read
 returns-in_default-clause-read g c = λ _.
     let h = c.script.invariant in
     record {
-      answered = answers_breaks _ _ _ _ _ _ _ _ _ h.answered c.in_default.ensures.err;
+      answered = answers_breaks _ _ _ _ _ _ _ _ _
+          (at_desks g.O.Onlooker.sees (moment 0 (g.P.Post.view c.args.post.now) c.args.desk.now c.args.onlooker.now)
+          (moment c.script.missed (g.P.Post.view c.script.post) c.script.desk c.script.onlooker)
+          c.requires.opening c.requires.right) h.answered c.in_default.ensures.err;
       flushed = h.works.flushed;
       fails = (
         subst
@@ -62,7 +65,7 @@ returns-then-last g c =
     (notes_none g.O.Onlooker.sees (moment c.script.missed
     (g.P.Post.view c.script.post) c.script.desk c.script.onlooker))
     c.in_default-request.is heard c.if-last.true) in
-    let all = completed g.O.Onlooker.sees _ _ _ _ _ _ _ _ _ _ _ c.requires.opening finishes
+    let all = completed g.O.Onlooker.sees _ _ _ _ _ _ _ _ _ _ _ c.requires.opening c.requires.right finishes
     (works_then _ _ _ _ _ _ h.works works) in
     record { done = all.0; noted = all.1; read = search rules; write = search rules }
 
@@ -87,14 +90,20 @@ returns-then-is_err-clause-write g c = λ _.
     let prompt = (g.P.Post.view c.args.post.now).is_prompt in
     let heard = c.in-Ok.ensures.heard in
     let fails : c.send.new.writer.failures ≡ c.script.writer.failures + 1 = search rules in
+    let s = served prompt c.in-Ok.heard.request c.in-Some.request heard.asked
+    (session c.script.desk c.script.rule) c.serve-reply.new.desk c.serve-reply.new.rule c.serve-reply.result c.in-Some.is heard.is
+    (rw h.post.kind at c.serve-reply.ensures.answer) c.serve-reply.ensures.kept in
+    let one = at_one c.script.desk c.serve-reply.new.desk s.0 c.serve-reply.result c.serve-reply.ensures.pending
+    (c.serve-reply.ensures.left s.0 s.3) in
     record {
       answered = stops_front _ _ _ _ _ (answers_stops _ _ _ _ _ _ _ _ _ _ _ _ h.answered
+          (AnswersAtEach c.script.desk one.0) AnswersAtDesks
+          (at_desks_then g.O.Onlooker.sees (moment 0 (g.P.Post.view c.args.post.now) c.args.desk.now c.args.onlooker.now)
+          (moment c.script.missed (g.P.Post.view c.script.post) c.script.desk c.script.onlooker) one.0
+          c.requires.opening c.requires.right)
           (stops_telling prompt _ _ _ _ (session c.script.desk c.script.rule) c.serve-reply.new.desk
-          c.serve-reply.new.rule _ _ c.in-Some.request c.serve-reply.result
-          heard (served prompt c.in-Ok.heard.request c.in-Some.request heard.asked
-          (session c.script.desk c.script.rule) c.serve-reply.new.desk c.serve-reply.new.rule c.serve-reply.result c.in-Some.is heard.is
-          (rw h.post.kind at c.serve-reply.ensures.answer) c.serve-reply.ensures.kept)
-          _ _ (wrote_is_err _ _ c.send.result _ (sym c.is_err.ensures.value
+          c.serve-reply.new.rule _ _ c.in-Some.request c.serve-reply.result heard s
+          (AnswersAtEach c.script.desk one.0) _ _ one.1 (wrote_is_err _ _ c.send.result _ (sym c.is_err.ensures.value
           ∙ c.if-is_err.true) c.send.ensures.bytes)));
       fails = fails ∙ ap (λ n. n + 1) h.works.writes;
     }
@@ -117,7 +126,7 @@ returns-then-is_bye g c =
     (notes_same g.O.Onlooker.sees c.script.missed (g.P.Post.view c.script.post) (g.P.Post.view c.serve-reply.new.post)
     c.script.desk c.script.onlooker c.serve-reply.new.onlooker still.0 still.1) bye
     (wrote_is_ok _ _ c.send.result _ (sym c.is_err.ensures.value ∙ c.if-is_err.false) c.send.ensures.bytes)) in
-    let all = completed g.O.Onlooker.sees _ _ _ _ _ _ _ _ _ _ _ c.requires.opening finishes
+    let all = completed g.O.Onlooker.sees _ _ _ _ _ _ _ _ _ _ _ c.requires.opening c.requires.right finishes
     (works_then _ _ _ _ _ _ h.works works) in
     record { done = all.0; noted = all.1; read = search rules; write = search rules }
 
@@ -139,9 +148,9 @@ returns-then-last-2 g c =
     (moment c.script.missed (g.P.Post.view c.script.post) c.script.desk c.script.onlooker)
     (moment c.note.new.missed (g.P.Post.view c.serve-reply.new.post) c.serve-reply.new.desk c.note.new.onlooker)
     c.serve-reply.new.onlooker s.0 c.serve-reply.result (c.serve-reply.ensures.looked s.0 s.3)
-    c.serve-reply.ensures.pending c.note.ensures)
+    c.serve-reply.ensures.pending (c.serve-reply.ensures.left s.0 s.3) c.note.ensures)
     (wrote_is_ok _ _ c.send.result _ (sym c.is_err.ensures.value ∙ c.if-is_err.false) c.send.ensures.bytes)) in
-    let all = completed g.O.Onlooker.sees _ _ _ _ _ _ _ _ _ _ _ c.requires.opening finishes
+    let all = completed g.O.Onlooker.sees _ _ _ _ _ _ _ _ _ _ _ c.requires.opening c.requires.right finishes
     (works_then _ _ _ _ _ _ h.works works) in
     record { done = all.0; noted = all.1; read = search rules; write = search rules }
 
@@ -164,7 +173,7 @@ script-preserved g c =
           (moment c.script.missed (g.P.Post.view c.script.post) c.script.desk c.script.onlooker)
           (moment c.note.new.missed (g.P.Post.view c.serve-reply.new.post) c.serve-reply.new.desk c.note.new.onlooker)
           c.serve-reply.new.onlooker s.0 c.serve-reply.result (c.serve-reply.ensures.looked s.0 s.3)
-          c.serve-reply.ensures.pending c.note.ensures)
+          c.serve-reply.ensures.pending (c.serve-reply.ensures.left s.0 s.3) c.note.ensures)
           (wrote_is_ok _ _ c.send.result _ (sym c.is_err.ensures.value ∙ c.if-is_err.false) c.send.ensures.bytes));
       post = carries_further _ _ _ _ h.post.limit h.post.kind c.serve-reply.ensures.post;
       works = works_then _ _ _ _ _ _ h.works works;

@@ -1,7 +1,7 @@
 use Rattle.hash_engine.proofs.Names.{IsNumber-grows, arith, rules, subst, sym, ◌<◌, ◌∙◌}
 use Rattle.hash_engine.specs.Search.{FindsFor, KeepsFor}
 use Rattle.hash_engine.proofs.Standing.{above, within, StandsFor-itself}
-use Rattle.hash_engine.proofs.Ending.{went_on, not_yet, End-found, End-fault}
+use Rattle.hash_engine.proofs.Shared.Ending.{went_on, not_yet, End-found, End-fault}
 use Rattle.hash_engine.proofs.Finding.{Keeps-middle, Keeps-noted, IsFound-none, found_still, asks_still, Asks-grown}
 use Rattle.hash_engine.proofs.Making.{MakesFor-none, MakesFor-noted}
 use Rattle.hash_engine.proofs.Computing.{AreDone-all, FirstAreMade-all, turn_made, middles_can, middles_found, middles_keeps, turn_can, turn_keeps, turn_asks}

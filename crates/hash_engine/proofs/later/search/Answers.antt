@@ -1,7 +1,7 @@
 use Rattle.std.proofs.lemmas.Result.{IfOk-from_err}
 use Rattle.hash_engine.proofs.Names.{refl}
-use Rattle.hash_engine.proofs.Ending.{went_on, End-found, End-same, End-memory, Grows-root}
-use Rattle.hash_engine.proofs.Finding.{CanSeek-root}
+use Rattle.hash_engine.proofs.Shared.Ending.{went_on, End-found, End-same, End-memory}
+use Rattle.hash_engine.proofs.Shared.Roots.{CanSeek-root, Grows-root}
 use Rattle.hash_engine.proofs.later.search.Goals as goal
 
 pub forward-requires : goal.forward-requires

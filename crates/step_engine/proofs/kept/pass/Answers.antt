@@ -1,6 +1,6 @@
 use Rattle.step_engine.proofs.Names.{Err, IsRight-grows, ap, arith, one_world, refl, ◌∙◌}
-use Rattle.step_engine.proofs.Spent.{root-for, root-asked, root-later, later-world, start-spent, search-spent}
-use Rattle.step_engine.proofs.Ends.{CountsStop-memory, CountsStop-ok, CountsStop-search, CountsStop-table, full-search, full-table, went_on}
+use Rattle.step_engine.proofs.Shared.Spent.{root-for, root-asked, root-later, later-world, start-spent, search-spent}
+use Rattle.step_engine.proofs.Shared.Ends.{CountsStop-memory, CountsStop-ok, CountsStop-search, CountsStop-table, full-search, full-table, went_on}
 use Rattle.step_engine.proofs.kept.pass.Goals as goal
 
 pub search-requires : goal.search-requires

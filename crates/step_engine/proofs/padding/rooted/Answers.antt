@@ -1,5 +1,5 @@
 use Rattle.step_engine.proofs.Names.{IfOk-weaker, arith, refl}
-use Rattle.step_engine.proofs.Spent.{low_enough, AddsStart-loaded, AddsStart-widened, IsRooted-widened}
+use Rattle.step_engine.proofs.Shared.Spent.{low_enough, AddsStart-loaded, AddsStart-widened, IsRooted-widened}
 use Rattle.step_engine.proofs.padding.rooted.Goals as goal
 
 pub start-requires-clause-level : goal.start-requires-clause-level

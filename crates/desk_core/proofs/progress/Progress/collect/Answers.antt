@@ -1,13 +1,19 @@
-use Rattle.desk_core.proofs.Names.{CancelsAny, Cause, IfSome, Option, Progress, Some, ap, arith, job_in, refl, subst, unwrap_or, ◌≡◌}
+use Rattle.desk_core.proofs.Names.{CancelsAny, Cause, EvolveFault, JobResult, Option, Progress, Some, ap, arith, cause_of_answer, job_in, met_by, refl, subst, unwrap_or, ◌≡◌}
+use Rattle.std.specs.Option.{option_or}
+use Rattle.desk_core.specs.Calls as call
+use Rattle.desk_core.specs.declared.collect.Collected.{Collected}
+use Rattle.desk_core.specs.declared.collect.Collected.TheVariants.{Released}
 use Rattle.desk_core.proofs.Steps.{GoesOn-answered, GoesOn-cancelled, GoesOn-on, tells-answered, tells-released, wanting-collected}
 use Rattle.desk_core.proofs.progress.Progress.collect.Goals as goal
 
-first_caused : (before : Option Cause) (told cause : Cause) → cause ≡ unwrap_or before told
-    → IfSome before (λ first. Some cause ≡ Some first)
-first_caused before told cause is = grind arith
+first_caused : (before : Option Cause) (told cause met : Cause) → cause ≡ unwrap_or before told → told ≡ met
+    → Some cause ≡ option_or before (Some met)
+first_caused before told cause met is same = grind arith
 
-same_cause : (cause : Option Cause) → IfSome cause (λ first. cause ≡ Some first)
-same_cause cause = grind arith
+same_cause : (cause : Option Cause) (answer : JobResult) (collected : Collected)
+    → ((fault : EvolveFault) → collected ≡ Released fault → ⊥)
+    → cause ≡ option_or cause (met_by (call.collects answer collected))
+same_cause cause answer collected kept = grind arith
 
 pub returns-in-Released-clause-goes : goal.returns-in-Released-clause-goes
 returns-in-Released-clause-goes c = λ p q receives.
@@ -19,8 +25,15 @@ returns-in-Released-clause-goes c = λ p q receives.
     let cancels : CancelsAny (job_in mid.unsent) collected c.cancel.new.desk =
     subst (λ u. CancelsAny (job_in u) collected c.cancel.new.desk) c.replace.ensures.value c.cancel.ensures in
     GoesOn-on _ _ _
-    (GoesOn-answered old collected p q before mid c.args.answer receives c.collect.ensures.fills
-    c.collect.ensures.book refl (first_caused before.cause c.of_answer.result c.unwrap_or.result c.unwrap_or.ensures)
+    (GoesOn-answered old collected p q before mid c.args.answer (Released c.in-Released.fault) receives
+    (record {
+      is = c.in-Released.ensures.collected;
+      fills = c.collect.ensures.fills;
+      book = c.collect.ensures.book;
+      event = c.in-Released.ensures.event;
+    }) refl
+    (first_caused before.cause c.of_answer.result c.unwrap_or.result (cause_of_answer c.in-Released.fault)
+    c.unwrap_or.ensures c.of_answer.ensures)
     (tells-released old collected p q before mid c.args.answer c.in-Released.fault c.of_answer.result receives
     c.collect.ensures.book c.in-Released.ensures.collected.gave_up c.of_answer.ensures
     (ap (λ cause. Some cause) c.unwrap_or.ensures)))
@@ -29,8 +42,14 @@ returns-in-Released-clause-goes c = λ p q receives.
 pub returns-in_default : goal.returns-in_default
 returns-in_default c = record {
   goes = λ p q receives.
-      GoesOn-answered c.args.desk.now c.collect.new.self p q c.args.self.now c.args.self.now c.args.answer receives
-      c.collect.ensures.fills c.collect.ensures.book refl (same_cause c.args.self.now.cause)
+      GoesOn-answered c.args.desk.now c.collect.new.self p q c.args.self.now c.args.self.now c.args.answer
+      c.collect.result receives
+      (record {
+        is = c.collect.ensures.collected;
+        fills = c.collect.ensures.fills;
+        book = c.collect.ensures.book;
+        event = c.collect.ensures.event;
+      }) refl (same_cause c.args.self.now.cause c.args.answer c.collect.result c.in_default.not-Released)
       (tells-answered c.args.desk.now c.collect.new.self p q c.args.self.now c.args.answer receives
       c.collect.ensures.book);
   same = λ none. refl;

@@ -17,7 +17,7 @@ returns-in-Closed-clause-goes g c =
     let before : Progress = ready c.args.job c.args.self.now in
     let this : Cancels c.args.job.number c.args.desk.now new =
     subst (λ (j : Job). Cancels j.number c.args.desk.now new) c.in-Closed.ensures.sent.0
-    (record { rows = c.cancel.ensures.rows; book = c.cancel.ensures.book }) in
+    (record { rows = c.cancel.ensures.rows; book = c.cancel.ensures.book; event = c.cancel.ensures.event }) in
     GoesOn-on _ (stage c.args.desk.now q before) _
     (GoesOn-idle _ _ _ _ _ (Idles-refused _ _ _ _ (λ (is : Closed c.in-Closed.job ≡ Taken). cc) c.in-Closed.ensures)
     refl refl)

@@ -1,6 +1,6 @@
 use Rattle.hash_engine.proofs.Names.{WasMade, WasPut, arith, get_or, ◌^◌}
 use Rattle.std.proofs.lemmas.Option.{IfSome_then}
-use Rattle.hash_engine.proofs.Shared.{recalled}
+use Rattle.hash_engine.proofs.Shared.Memos.{recalled}
 use Rattle.hash_engine.proofs.Finding.{recalled_way}
 use Rattle.hash_engine.proofs.memo.Memo.recall.Goals as goal
 

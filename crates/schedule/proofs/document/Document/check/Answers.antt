@@ -1,8 +1,7 @@
 use Rattle.schedule.proofs.document.Document.check.Goals as goal
 
-pub returns-in-ChangeRepeat : goal.returns-in-ChangeRepeat
-returns-in-ChangeRepeat c = rw c.in-ChangeRepeat.is
-    (rw c.every-in-ChangeRepeat.ensures at c.check_changed_intervention-in-ChangeRepeat.ensures)
+pub returns-in-Change : goal.returns-in-Change
+returns-in-Change c = rw c.in-Change.is c.check_changed_intervention.ensures
 
 pub returns-in-AddBookmark : goal.returns-in-AddBookmark
 returns-in-AddBookmark c = rw c.in-AddBookmark.is c.check_bookmark.ensures

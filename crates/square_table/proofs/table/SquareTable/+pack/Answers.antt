@@ -1,4 +1,4 @@
-use Rattle.square_table.proofs.Names.{IsNumber, IsPacking, List, None, arith, first_number, known_of, length, subst, sym, ℕ, ◌+◌, ◌-◌, ◌<◌, ◌∙◌, ◌≡◌, ◌≤◌}
+use Rattle.square_table.proofs.Names.{IsNumber, List, None, arith, first_number, known_of, length, subst, sym, ℕ, ◌+◌, ◌-◌, ◌<◌, ◌∙◌, ◌≡◌, ◌≤◌}
 use Rattle.square_table.specs.Packing.{IsFound}
 use Rattle.square_table.proofs.Shared.Tables.{above_zero}
 use Rattle.square_table.proofs.Packing.{found_still, level_suc, packed_more, packed_states, packs_none, packs_then, quadrant_numbers, recalled, unknown_new, walk_whole}

@@ -1,5 +1,6 @@
 use Rattle.square_table.proofs.Names.{Grows, GrowsBy, GrowsFrom, IsNumber, Table, [], add-one, arith, empty_square, rules, square_in, subst, suc, sym, ℕ, ◌+◌, ◌≡◌, ◌≤◌}
-use Rattle.square_table.proofs.Loading.{GrowsFrom-same, GrowsFrom-then, GrowsFrom-higher, IsNumber-state, square_in-cell, empty_square-zero, four_of, blank_joined, blank_grows}
+use Rattle.square_table.proofs.Shared.Numbers.{IsNumber-state, square_in-cell}
+use Rattle.square_table.proofs.Loading.{GrowsFrom-same, GrowsFrom-then, GrowsFrom-higher, empty_square-zero, four_of, blank_joined, blank_grows}
 use Rattle.square_table.proofs.table.SquareTable.blank.Goals as goal
 
 pub loop-init : goal.loop-init

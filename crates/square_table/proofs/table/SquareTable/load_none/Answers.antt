@@ -1,5 +1,6 @@
 use Rattle.square_table.proofs.Names.{AreBlanks, Grows, GrowsBy, GrowsFrom, IsSquareOf, Table, [], ap₂, lit<, refl, square_in, sym, ℕ, ◌∙◌, ◌∷◌}
-use Rattle.square_table.proofs.Loading.{AreBlanks-first, AreBlanks-more, blank_grows, four_of, IsNumber-state, square_in-cell, empty_square-zero}
+use Rattle.square_table.proofs.Shared.Numbers.{IsNumber-state, square_in-cell}
+use Rattle.square_table.proofs.Loading.{AreBlanks-first, AreBlanks-more, blank_grows, four_of, empty_square-zero}
 use Rattle.square_table.proofs.table.SquareTable.load_none.Goals as goal
 
 -- the blank squares of levels 0 and 1

@@ -3,7 +3,7 @@ use Rattle.worlds.specs.Stop.{CountsStop}
 use Rattle.hash_engine.specs.Memo.{IsRightMemo}
 use Rattle.step_engine.specs.Evolved.{IsRoomSpent}
 use Rattle.step_engine.specs.declared.evolved.EvolveFault.TheVariants.{Stopped}
-use Rattle.step_engine.proofs.Ends.{CountsStop-memory, no_room-memory}
+use Rattle.step_engine.proofs.Shared.Ends.{CountsStop-memory, no_room-memory}
 use Rattle.step_engine.proofs.kept.Engine.evolve.Goals as goal
 
 pub invariant_of-self : goal.invariant_of-self

@@ -1,0 +1,4 @@
+pub mod Blocks
+pub mod Names
+pub mod Picked
+pub mod Reported

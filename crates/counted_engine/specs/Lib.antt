@@ -1,0 +1,2 @@
+pub mod Evolved
+pub mod Found

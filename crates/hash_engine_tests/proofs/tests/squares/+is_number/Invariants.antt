@@ -1,4 +1,0 @@
-use Rattle.hash_engine_tests.proofs.tests.squares.+is_number.Given as goal
-
-abbrev pub decreases-is_number : goal.decreases-is_number
-decreases-is_number l = l.level

@@ -1,4 +1,0 @@
-use Rattle.hash_engine_tests.proofs.tests.squares.+square_of.Given as goal
-
-abbrev pub decreases-square_of : goal.decreases-square_of
-decreases-square_of l = l.level

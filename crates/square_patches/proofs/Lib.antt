@@ -1,0 +1,3 @@
+pub mod Laid
+pub mod Middles
+pub mod Names

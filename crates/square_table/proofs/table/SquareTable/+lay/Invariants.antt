@@ -1,8 +1,0 @@
-use Rattle.std.proofs.Common.{◌+◌, ◌*◌}
-use Rattle.square_table.proofs.table.SquareTable.+lay.Given as goal
-
-abbrev pub decreases-lay_four : goal.decreases-lay_four
-decreases-lay_four g l = 2 * l.level
-
-abbrev pub decreases-lay_tree : goal.decreases-lay_tree
-decreases-lay_tree g l = 2 * l.level + 1

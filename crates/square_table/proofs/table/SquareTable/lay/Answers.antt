@@ -1,6 +1,0 @@
-use Rattle.std.proofs.Common.{arith}
-use Rattle.square_table.proofs.Middles.{laid-patch}
-use Rattle.square_table.proofs.table.SquareTable.lay.Goals as goal
-
-pub returns-clause-laid : goal.returns-clause-laid
-returns-clause-laid g c = grind (arith, laid-patch)
