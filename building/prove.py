@@ -1,4 +1,3 @@
-#!/usr/bin/env python3
 """Proves and builds the program and the crates below it where sources have changed, and tells on
 standard error how far it is.
 
@@ -11,24 +10,16 @@ beside the program, in its folder `out`.
 import asyncio
 import contextlib
 import dataclasses
-import fcntl
-import functools
-import hashlib
-import itertools
 import os
 import re
-import shutil
 import signal
-import sys
 import time
 
-ROOT = os.path.dirname(os.path.realpath(__file__))
-PROGRAM = "desk"
-OUT = f"{ROOT}/crates/{PROGRAM}/out"
-BUILT = f"{OUT}/{PROGRAM}"
-# What is proved of libraries: a built one, and the sum of what it was proved of. The toolchain's commands pass
-# over a folder of that name, and `rt ci` leaves it there.
-KEPT = f"{OUT}/rlib"
+import toolchain
+from crates import is_fresh, list_parts
+from places import KEPT, OUT, PROGRAM, PROVED, ROOT, tell
+from running import alone
+
 TARGET = "x86_64-unknown-linux-gnu"
 # Lines that one processor proves in a second: the first guess of the time, and for how many lines it
 # counts beside what is measured.
@@ -40,102 +31,8 @@ MOST_JOBS = 4
 MUCH_LESS_URGENT = 3 / 4
 # by so much, as `nice` has it.
 NICENESS = 10
-# More bytes of memory than a process was seen to take.
-MEMORY = 3_000_000_000
-
-
-@dataclasses.dataclass(eq=False)
-class Crate:
-    """A crate, the repository's libraries that it uses, and those of the toolchain."""
-
-    name: str
-    uses: list["Crate"]
-    kit: list[str]
-    # How many lines are proved one after another from it up to the program.
-    urgency: int = 0
-
-    @property
-    def folder(self):
-        return f"{ROOT}/crates/{self.name}"
-
-    @property
-    def library(self):
-        """Where it is built, if it is a library."""
-        return f"{KEPT}/{self.name}.rlib"
-
-    @functools.cached_property
-    def below(self):
-        """The repository's libraries below it."""
-        return {it for used in self.uses for it in (used, *used.below)}
-
-    def sources(self):
-        """The folders and files that its proof reads."""
-        roots = [f"{self.folder}/{part}" for part in ("proofs", "specs", "src")]
-        for folder, folders, files in itertools.chain.from_iterable(map(os.walk, roots)):
-            folders.sort()
-            yield folder
-            yield from (f"{folder}/{it}" for it in sorted(files) if it.endswith((".rt", ".antt")))
-
-    @functools.cached_property
-    def line_count(self):
-        """How many lines of code, definitions and proofs it has."""
-        return sum(read(it).count(b"\n") for it in self.sources() if os.path.isfile(it))
-
-    @functools.cached_property
-    def sum(self):
-        """What tells whether a proof of it is still one: its text, those below it, and who proves."""
-        return self.sum_now()
-
-    def sum_now(self):
-        """The same of the files as they are now."""
-        rattle = os.stat(f"{toolchain()}/bin/rattle")
-        files = [(os.path.relpath(it, ROOT), read(it)) for it in self.sources() if os.path.isfile(it)]
-        parts = (self.kit, [it.sum for it in self.uses], files, rattle.st_size, rattle.st_mtime_ns)
-        return hashlib.sha256(repr(parts).encode()).hexdigest()
-
-    def is_kept(self):
-        """Whether this text was proved before."""
-        with contextlib.suppress(FileNotFoundError):
-            return read(f"{self.library}.sum").decode() == self.sum and os.path.isdir(self.library)
-        return False
-
-
-def read(path):
-    with open(path, "rb") as file:
-        return file.read()
-
-
-def crates():
-    """The program and the repository's libraries that it needs, lowest first."""
-    with open(f"{ROOT}/crates.txt", encoding="utf-8") as file:
-        rows = [line.split("#")[0].partition(":") for line in file]
-    named = {name.strip(): words.split() for name, _, words in rows if name.strip()}
-    found = {}
-
-    def need(name):
-        if name not in found:
-            uses = [need(it) for it in named[name] if it in named]
-            found[name] = Crate(name, uses, ["std", *(it for it in named[name] if it not in named)])
-        return found[name]
-
-    need(PROGRAM)
-    for crate in reversed(found.values()):
-        above = [it.urgency for it in found.values() if crate in it.uses]
-        crate.urgency = crate.line_count + max(above, default=0)
-    return list(found.values())
-
-
-def is_fresh(needed):
-    """Whether the program is newer than all that it is built of."""
-    if not os.path.isfile(BUILT):
-        return False
-    parts = [path for it in needed for path in it.sources()]
-    return all(os.path.getmtime(it) < os.path.getmtime(BUILT) for it in [*parts, f"{ROOT}/crates.txt"])
-
-
-def toolchain():
-    """The folder of the toolchain, whose command `rt` is on the PATH."""
-    return os.path.dirname(os.path.dirname(os.path.realpath(shutil.which("rt"))))
+# Bytes of memory that are reckoned for a crate, of which all that were measured took less, and for each process.
+MEMORY, MORE_MEMORY = 3_000_000_000, 2_000_000_000
 
 
 def processors():
@@ -146,10 +43,6 @@ def free_memory():
     """How many bytes of memory are free."""
     with open("/proc/meminfo", encoding="ascii") as file:
         return 1024 * int(re.search(r"MemAvailable:\s+(\d+)", file.read())[1])
-
-
-def tell(text):
-    print(f"desk: {text}", file=sys.stderr, flush=True)
 
 
 class Progress:
@@ -176,7 +69,7 @@ async def run(*words, folder=ROOT, niceness=0):
     """Runs a command of the toolchain, which ends with this program."""
     how = {"stdin": asyncio.subprocess.DEVNULL, "stdout": asyncio.subprocess.PIPE, "stderr": asyncio.subprocess.STDOUT}
     # In a session of its own it would give way to nobody: Linux shares processors among sessions first.
-    process = await asyncio.create_subprocess_exec(*words, cwd=folder, process_group=0, **how)
+    process = await asyncio.create_subprocess_exec(*words, cwd=folder, preexec_fn=os.setpgrp, **how)
     try:
         with contextlib.suppress(ProcessLookupError):
             os.setpriority(os.PRIO_PROCESS, process.pid, os.nice(0) + niceness)
@@ -191,8 +84,8 @@ async def run(*words, folder=ROOT, niceness=0):
 
 def words_for(crate, jobs):
     """The words of the toolchain's command `build` that say what a crate is and stands on."""
-    kit = toolchain()
-    words = ["--crate-name", crate.name, f"src/{'main' if crate.name == PROGRAM else 'lib'}.rt"]
+    kit = toolchain.folder()
+    words = ["--crate-name", crate.name, crate.root_file]
     for name in crate.kit:
         words += ["--extern", f"{name}={kit}/rlibs/{name}.rlib"]
     for used in crate.uses:
@@ -206,7 +99,7 @@ def words_for(crate, jobs):
 async def prove(crate, share, *words):
     """Proves a crate, and builds of it what these words say."""
     words = "build", *words_for(crate, share.jobs), *words
-    await run(f"{toolchain()}/bin/rattle", *words, folder=crate.folder, niceness=share.niceness)
+    await run(f"{toolchain.folder()}/bin/rattle", *words, folder=crate.folder, niceness=share.niceness)
     if crate.sum_now() != crate.sum:
         raise Refused(f"{crate.name} changed while it was proved\n")
 
@@ -223,13 +116,13 @@ async def prove_library(crate, share):
 
 async def prove_program(crate, share):
     """Proves the program, compiles what was proved, and links it."""
-    kit, made = toolchain(), f"{OUT}/{PROGRAM}.o"
+    kit, made = toolchain.folder(), f"{OUT}/{PROGRAM}.o"
     os.makedirs(OUT, exist_ok=True)
     await prove(crate, share, "--toolchain", f"{kit}/toolchain", "--backend", "llvm", "-o", made)
-    words = ["--target", TARGET, "--toolchain", f"{kit}/toolchain", "-o", f"{BUILT}.new", made]
+    words = ["--target", TARGET, "--toolchain", f"{kit}/toolchain", "-o", f"{PROVED}.new", made]
     await run(f"{kit}/bin/rattle-link", *words, f"{kit}/c/libos_c.a", f"{kit}/c/liblibc_c.a")
     # A program that runs keeps its file.
-    os.replace(f"{BUILT}.new", BUILT)
+    os.replace(f"{PROVED}.new", PROVED)
 
 
 @dataclasses.dataclass(frozen=True)
@@ -249,8 +142,15 @@ def lanes():
     return max(1, min(processors(), free_memory() // MEMORY))
 
 
-def next_to_prove(waiting, running, room):
+def processes():
+    """How many processes the free memory holds."""
+    return max(1, free_memory() // MORE_MEMORY)
+
+
+def next_to_prove(waiting, running, room, most):
     """The crates that can be proved now, where so many may be under way, and what each gets of the processors.
+
+    most: how many processes there may be in all, but for one a crate
 
     Those whose way up to the program is nearly as long as the longest share the processors, with two processes
     each at least. The others give way to them: they have what is left where one process reads what a crate stands
@@ -261,18 +161,19 @@ def next_to_prove(waiting, running, room):
     most_urgent = max(map(urgency, under_way), default=0)
     urgent = [it for it in under_way if urgency(it) > MUCH_LESS_URGENT * most_urgent]
     for crate in under_way[len(running) :]:
+        held = max(1, most // len(under_way))
         if crate in urgent:
-            yield crate, Share(min(room, MOST_JOBS, max(2, room // len(urgent))))
+            yield crate, Share(min(room, MOST_JOBS, max(2, room // len(urgent)), held))
         else:
-            yield crate, Share(2 if len(under_way) < room else 1, NICENESS)
+            yield crate, Share(min(2 if len(under_way) < room else 1, held), NICENESS)
 
 
 async def prove_all(waiting, progress):
     """Proves crates, each after those below it that are among them."""
-    running, tasks, room = set(), {}, lanes()
+    running, tasks, room, most = set(), {}, lanes(), processes()
     try:
         while waiting or running:
-            for crate, share in [*next_to_prove(waiting, running, room)]:
+            for crate, share in [*next_to_prove(waiting, running, room, most)]:
                 how = prove_program if crate.name == PROGRAM else prove_library
                 tasks[asyncio.create_task(how(crate, share))] = crate
                 running.add(crate)
@@ -297,21 +198,8 @@ async def until_told(work):
     await work
 
 
-@contextlib.contextmanager
-def alone():
-    """Waits while another run of this program builds here."""
-    os.makedirs(OUT, exist_ok=True)
-    with open(f"{OUT}/build.lock", "w", encoding="ascii") as lock:
-        try:
-            fcntl.flock(lock, fcntl.LOCK_EX | fcntl.LOCK_NB)
-        except BlockingIOError:
-            tell("the program is being built already; waiting for that to end")
-            fcntl.flock(lock, fcntl.LOCK_EX)
-        yield
-
-
 def build(needed):
-    """Proves and builds the program. Answers whether that went well."""
+    """Proves and builds the program."""
     began, kept = time.time(), set()
     for crate in needed:
         if kept.issuperset(crate.uses) and crate.is_kept():
@@ -319,33 +207,19 @@ def build(needed):
     waiting = {*needed} - kept
     progress = Progress({it: it.line_count for it in waiting})
     tell(f"{len(waiting)} crates are to be proved, which takes about {progress.minutes()} min")
-    tell(f"for a first answer at once, without proofs: cd {ROOT}/crates/{PROGRAM} && rt try < SCRIPT")
-    try:
-        asyncio.run(until_told(prove_all(waiting, progress)))
-    except Refused as refused:
-        sys.stderr.write(str(refused))
-        tell("the program is not proved, so it is not built")
-        return False
+    asyncio.run(until_told(prove_all(waiting, progress)))
     # It is no newer than what changed meanwhile.
-    os.utime(BUILT, (began, began))
-    return True
+    os.utime(PROVED, (began, began))
 
 
-def main():
-    needed = crates()
-    if is_fresh(needed):
-        return 0
-    if not shutil.which("rt"):
-        tell("rt, the command of the toolchain, is not on the PATH, and without it nothing can be proved or built")
-        return 127
-    try:
-        with alone():
-            return 0 if is_fresh(needed) or build(needed) else 1
-    except KeyboardInterrupt:
-        return 130
-    except asyncio.CancelledError:
-        return 143
-
-
-if __name__ == "__main__":
-    sys.exit(main())
+def make(needed):
+    """Sees that the proved program of the present text is there, and gives its place."""
+    toolchain.check()
+    with alone(OUT, "the program is being proved"):
+        if is_fresh(PROVED, needed):
+            tell("the program of this text is proved")
+        else:
+            build(needed)
+            tell("the program is proved, and ./desk.sh runs it from now on")
+        list_parts(PROVED, needed)
+    return PROVED
