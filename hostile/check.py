@@ -1,5 +1,5 @@
 #!/usr/bin/env python3
-"""Hostile use of the built program: signals, devices that fail, little memory, huge scripts.
+"""Hostile use of the built program: signals, terminals, devices that fail, little memory, huge scripts.
 
     hostile/check.py [PROGRAM]
 
@@ -9,6 +9,7 @@ ends within a minute, and a run of the program that takes a third of one is a fa
 """
 import contextlib
 import os
+import pty
 import resource
 import signal
 import socket
@@ -128,6 +129,42 @@ def quits_among_polls():
             took = time.monotonic() - begun
         expect((process.returncode, out, err), 0, LOOKED + b"bye\n")
         need(took < SECONDS_TO_QUIT, f"with {workers} workers it took {took:.1f} s to quit")
+
+
+# Terminals
+
+GREETING = b"desk: waiting for a script; most begin with `rule`, and `help` lists the commands\n"
+LISTS = b"desk: `help` lists the commands\n"
+ENDS = b"desk: this line belongs to the text, which ends at a line that is just `end`\n"
+# Lines with what is said of each on standard error where they are typed.
+TYPED = (
+    (b"paint 3\n", LISTS), (b"show 1\n", b""), (b"rule\n", b""), (b"@RULE X\n", b""), (b"settle\n", ENDS),
+    (b"End\n", ENDS), (b"edn\n", ENDS), (b"start rle\n", ENDS), (b"end\n", b""), (b"settle\n", b""),
+    (b"help me\n", LISTS), (b"quit\n", b""),
+)
+TYPED_REPLIES = (b"refused 80 BadCommand 1\nrefused 44 NoSuchBookmark\nrefused 2 NoTable\nsettled\n"
+                 b"refused 80 BadCommand 11\nbye\n")
+
+
+def typed():
+    terminal, end = pty.openpty()
+    try:
+        with started(stdin=end) as process:
+            said = process.stderr.readline()
+            need(said == GREETING, repr(said))
+            for line, wanted in TYPED:
+                os.write(terminal, line)
+                said = process.stderr.readline() if wanted else b""
+                need(said == wanted, f"{line!r}: {said!r}")
+            out, err = process.communicate(timeout=SECONDS)
+        expect((process.returncode, out, err), 0, TYPED_REPLIES)
+    finally:
+        os.close(terminal)
+        os.close(end)
+
+
+def not_typed():
+    expect(run(b"".join(line for line, _ in TYPED)), 0, TYPED_REPLIES)
 
 
 # Devices
@@ -404,6 +441,8 @@ CASES = {
     "SIGTERM in the middle": killed(signal.SIGTERM),
     "SIGKILL in the middle": killed(signal.SIGKILL),
     "it quits among 20,000 polls": quits_among_polls,
+    "what is typed at a terminal": typed,
+    "the same from a pipe": not_typed,
     "standard input is closed": input_is_closed,
     "standard output is closed": output_is_closed,
     "standard error is closed": errors_are_closed,

@@ -6,7 +6,7 @@
 A test that has no memory is to end by a refusal that says so, "memory", NoMemory or 70. Printed is
 whatever else happens: a fault, a hang, another end, or a test that passes although a later failing
 allocation ends it, so that it went on without memory. The gate doesn't run this. `rt try` makes the
-crate anew for each number, which takes half a minute of one processor, so the numbers of --at are
+crate anew for each number, which takes one to two minutes of one processor, so the numbers of --at are
 tried in turn, with all crates, until no test of a crate comes as far or the minutes are over.
 """
 import argparse

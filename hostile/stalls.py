@@ -47,7 +47,7 @@ class _Writing:
         ways = ((25, self.mark), (8, self.branch), (7, self.intervene), (4, self.cells), (6, self.change),
                 (4, lambda: b"move %d %d" % (self.bookmark(), self.generation())),
                 (2, lambda: b"unmark %d" % self.bookmark()),
-                (12, lambda: b"work"), (14, lambda: b"poll"), (4, lambda: b"list"), (2, lambda: b"script"),
+                (12, lambda: b"work"), (14, lambda: b"poll"), (4, lambda: b"list"), (2, lambda: b"script"), (1, lambda: b"help"),
                 (7, lambda: b"settle"), (4, lambda: b"peek %d" % self.bookmark()), (3, lambda: b"show %d" % self.bookmark()))
         weights, writers = zip(*ways)
         return self.chance.choices(writers, weights)[0]()

@@ -47,6 +47,7 @@ class Plain(enum.Enum):
     POLL = b"poll"
     LIST = b"list"
     SCRIPT = b"script"
+    HELP = b"help"
     QUIT = b"quit"
 
 

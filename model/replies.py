@@ -6,6 +6,7 @@ from typing import FrozenSet, Iterator, List, NamedTuple, Optional, Union
 
 import macrocells
 import rle
+from command_list import command_list
 from commands import Command, Format, NotACommand, Peek, Plain, Show, command_of, format_of
 from documents import Document
 from edits import Edit, ReplaceRule, ReplaceStart, changed
@@ -134,6 +135,8 @@ def _plain(document: Document, ask: Plain, short: Shortage) -> After:
         return After(b"bye\n", document, ends=True)
     if ask is Plain.WORK:
         return After(b"working\n", document)
+    if ask is Plain.HELP:
+        return After(b"help %d\n" % len(command_list()) + command_list(), document)
     if ask is Plain.SCRIPT:
         return After(Refused(Fault.NoMemory).told() if isinstance(short, Memory) else scripted(document), document)
     if ask is Plain.LIST:

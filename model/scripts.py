@@ -157,6 +157,7 @@ class _Writing:
             (6 * often, lambda: b"poll"),
             (3 * often, lambda: b"list"),
             (often, lambda: b"script"),
+            (1, lambda: b"help"),
             (2, lambda: chance.choice((b"", b"# a comment", b" \t ", b"#"))),
         )
         weights, writers = zip(*pieces)

@@ -1,4 +1,5 @@
 """Tests of the model's replies to scripts: those of examples/, and others whose replies are worked by hand."""
+import re
 import sys
 import unittest
 from pathlib import Path
@@ -129,6 +130,13 @@ class Documents(unittest.TestCase):
             "ok 1", "ok 2", "ok 3 bookmark 1", "polled 0", "bookmark 1 current 4", "1 2", "refused 44 NoSuchBookmark",
         )
 
+    def test_help_lists_the_commands_and_changes_nothing(self):
+        first, _, rest = replied("help\nset 0 0 1\nhelp\n").partition("\n")
+        size = int(first[len("help "):])
+        self.assertEqual(rest, f"{rest[:size]}ok 1\nhelp {size}\n{rest[:size]}")
+        self.assertEqual(re.findall(r"(?m)^  (list|script|help|quit)\b", rest[:size]), ["list", "script", "help", "quit"])
+        self.assertTrue(rest[:size].endswith("\n"))
+
     def test_limits(self):
         self.check(
             "set 1152921504606846975 0 1\nset 1152921504606846976 0 1\nmark 1152921504606846977 counts\n"
@@ -169,7 +177,7 @@ class Lines(unittest.TestCase):
         for line in ("paint 3", "set 0 0", "set", "settle x", "show", "show x", "mark 0", "mark 0 window 1 1 1",
                      "at 1 0 0 1", "on 0 set 0 0 1", "on at 1 set 0 0 1", "every 1 2 set 0 0 1", "rule x", "start foo",
                      "move 1", "set\t0 0 1", "set +1 0 1", "set 0 0 -1", "quit now",
-                     "peek", "peek 1 1", "poll 1", "list 0"):
+                     "peek", "peek 1 1", "poll 1", "list 0", "help 1", "helps", "Help"):
             with self.subTest(line=line):
                 self.assertEqual(replied(f"\n# said\n{line}\n"), "refused 80 BadCommand 3\n")
 
