@@ -1,5 +1,7 @@
 #!/bin/bash
-# Installs what the page and its tests need, from Debian: aiohttp, and a browser with its driver.
-# Where these aren't there, the tests of the page are skipped and say so.
+# Installs what the clients and their tests can use, from Debian. Tests of what isn't there are skipped and say so.
 set -e
-apt-get install -y python3-aiohttp python3-selenium chromium chromium-driver
+# The page with its editor, and a browser with its driver
+apt-get install -y python3-aiohttp libjs-codemirror python3-selenium chromium chromium-driver
+# Arrays, plots, bars, the notebook of docs, and Golly on a display that nobody sees
+apt-get install -y python3-numpy python3-matplotlib python3-tqdm jupyter-nbconvert python3-ipykernel golly xvfb

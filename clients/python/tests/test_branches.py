@@ -2,18 +2,13 @@
 
     python3 -m unittest discover -s clients/python/tests -p test_branches.py
 """
-import os
-import sys
 import tempfile
 import unittest
 from pathlib import Path
 
-sys.dont_write_bytecode = True
-sys.path.insert(0, str(Path(__file__).resolve().parents[1]))
+from desk import Desk, Refused, Settling, Window
+from places import PROGRAM
 
-from desk import BUILT, Desk, Refused, Settling, Window  # noqa: E402
-
-PROGRAM = os.environ.get("DESK") or BUILT
 X_RULE = (
     "@RULE X\n@TABLE\nn_states:2\nneighborhood:oneDimensional\nsymmetries:none\n0,1,0,1\n0,0,1,1\n1,0,0,0\n1,1,1,0\n"
 )

@@ -14,30 +14,24 @@ import time
 import unittest
 from pathlib import Path
 
-sys.dont_write_bytecode = True
-CLIENTS = Path(__file__).resolve().parents[1]
-sys.path.insert(0, str(CLIENTS))
+from desk import Desk, Refused, Settling, Trouble, Window
+from desk.formats.header import rule_named_by
+from places import EXAMPLES, PROGRAM, WITH_PACKAGE
 
-from desk import BUILT, Desk, Refused, Settling, Trouble, Window  # noqa: E402
-
-PROGRAM = os.environ.get("DESK") or BUILT
-EXAMPLES = CLIENTS.parents[1] / "examples"
 # Python 3.12 doesn't tell of each instruction where tracing begins a second time.
 STEP = "line" if sys.version_info[:2] == (3, 12) else "opcode"
 HOLDER = """\
 import sys, time
-sys.path.insert(0, sys.argv[1])
 from desk import Desk
-desk = Desk(sys.argv[2])
+desk = Desk(sys.argv[1])
 desk.mark(5, "counts")
-print(desk._exchange._run.pid, flush=True)
+print(desk.process, flush=True)
 time.sleep(60)
 """
 FORK = """\
 import os, sys
-sys.path.insert(0, sys.argv[1])
 from desk import Desk, Trouble
-desk = Desk(sys.argv[2])
+desk = Desk(sys.argv[1])
 child = os.fork()
 if child:
     os.waitpid(child, 0)
@@ -124,7 +118,7 @@ def is_gone(process, seconds):
 
 
 class BreakingOffTest(unittest.TestCase):
-    """Under the rule `still` the texts of a start are known."""
+    """The texts of a start are known."""
 
     def setUp(self):
         folder = tempfile.TemporaryDirectory()
@@ -165,14 +159,14 @@ class BreakingOffTest(unittest.TestCase):
         paths = [self.file(f"{it}.rle", soup[0]) for it, soup in enumerate(soups)]
         desk = self.desk
         longest, last = duration(lambda: desk.start(paths[0]), 3), 0
-        mark, revision, broken = desk.mark(0, "counts"), 4, 0
+        mark, revision, broken = desk.mark(0, "counts"), 5, 0
         for moment in range(24):
             broken += is_broken_off(lambda: desk.start(paths[1 - last]), longest * 1.1 * moment / 24)
             last, revision = (last, revision) if desk.revision == revision else (1 - last, revision + 1)
             self.assertEqual(desk.revision, revision)
             self.assertEqual(desk.show(mark), {1: soups[last][1]}, moment)
         self.assertGreater(broken, 0)
-        self.assertGreater(revision, 4)
+        self.assertGreater(revision, 5)
 
     def test_a_rule_is_taken_or_refused(self):
         lines = "".join(f"0,{a},{b},0\n" for a in range(100) for b in range(100)) * 2
@@ -186,7 +180,7 @@ class BreakingOffTest(unittest.TestCase):
             with contextlib.suppress(Refused):
                 is_broken_off(lambda: desk.rule(paths[moment % 2]), longest * moment / 20)
             self.assertIn(desk.revision - before, (0, 1 - moment % 2))
-            self.assertEqual(desk._rule_name, "many")
+            self.assertEqual(rule_named_by(desk._accepted.rule.text), "many")
             with self.assertRaises(Refused) as caught:
                 desk.set([(0, 0, 100)])
             self.assertEqual(caught.exception.name, "CellStateTooHigh")
@@ -232,6 +226,17 @@ class BreakingOffTest(unittest.TestCase):
         self.assertEqual(desk.show(mark), wanted)
         self.assertEqual((desk.settle(), desk.revision), (Settling(0, 0), 4))
 
+    def test_the_next_call_is_answered_at_once(self):
+        desk = self.desk
+        desk.rule(str(EXAMPLES / "brain.rule"))
+        desk.start(str(EXAMPLES / "brain.rle"))
+        near, far = desk.mark(2, "counts"), desk.mark(2**40 + 12345, "counts")
+        for call in (desk.settle, lambda: desk.show(far)):
+            self.assertTrue(is_broken_off(call, 0.5))
+            self.assertLess(duration(lambda: desk.peek(far)), 1)  # 0.1 on a machine that isn't busy
+        desk.unmark(far)
+        self.assertEqual(desk.show(near), {1: 14, 2: 12})
+
     def test_looks_leave_no_reply_to_the_next(self):
         desk, views = self.desk, ("rle", Window(0, 0, 200, 200), "counts", Window(1, 1, 2, 2))
         desk.start(self.file("soup.rle", rle("looks", 300)[0]))
@@ -248,7 +253,7 @@ class BreakingOffTest(unittest.TestCase):
             broken += is_broken_off(looks[look], longest[look] * moment / 240)
             asked = moment * 7 % len(marks)
             self.assertEqual(desk.peek(marks[asked]), wanted[asked], moment)
-            self.assertEqual((desk.list(), desk.poll().pending, desk.revision), (listed, 0, 505), moment)
+            self.assertEqual((desk.list(), desk.poll().pending, desk.revision), (listed, 0, 506), moment)
         self.assertEqual(desk.script(), script)
         self.assertGreater(broken, 20)
 
@@ -291,7 +296,8 @@ class BreakingOffTest(unittest.TestCase):
 
     def test_replies_that_make_no_sense_end_all(self):
         for reply in ("", "bookmark 1", "ok 1\\nok 2"):
-            odd = self.file("odd", f"#!/bin/sh\nprintf '{reply}\\n'\nexec sleep 60\n")
+            said = f"read line\necho listed 0\nread line\nprintf '{reply}\\n'\nexec sleep 60\n"
+            odd = self.file("odd", f"#!/bin/sh\n{said}")
             os.chmod(odd, 0o755)
             with self.subTest(reply), Desk(odd) as desk:
                 with self.assertRaisesRegex(Trouble, "the call was broken off by"):
@@ -301,8 +307,9 @@ class BreakingOffTest(unittest.TestCase):
 
     def test_the_program_ends_with_its_client(self):
         for number in (signal.SIGKILL, signal.SIGINT, signal.SIGTERM):
-            words = [sys.executable, "-B", "-c", HOLDER, str(CLIENTS), PROGRAM]
-            with subprocess.Popen(words, stdout=subprocess.PIPE, stderr=subprocess.DEVNULL, text=True) as client:
+            words = [sys.executable, "-B", "-c", HOLDER, PROGRAM]
+            with subprocess.Popen(words, env=WITH_PACKAGE, stdout=subprocess.PIPE, stderr=subprocess.DEVNULL,
+                                  text=True) as client:
                 process = int(client.stdout.readline())
                 self.assertEqual(os.getsid(process), process)
                 client.send_signal(number)
@@ -310,14 +317,14 @@ class BreakingOffTest(unittest.TestCase):
                 self.assertTrue(is_gone(process, 20), number)
 
     def test_a_fork_leaves_it_alone(self):
-        words = [sys.executable, "-B", "-W", "ignore", "-c", FORK, str(CLIENTS), PROGRAM]
-        said = subprocess.run(words, capture_output=True, text=True, timeout=30)
+        words = [sys.executable, "-B", "-W", "ignore", "-c", FORK, PROGRAM]
+        said = subprocess.run(words, env=WITH_PACKAGE, capture_output=True, text=True, timeout=30)
         self.assertEqual((said.stdout, said.stderr), ("the desk is one of another process\n{}\n", ""))
 
     def test_it_ends_where_nothing_refers_to_it(self):
         desk = Desk(PROGRAM)
         desk.mark(1, "counts")
-        process = desk._exchange._run.pid
+        process = desk.process
         del desk
         self.assertTrue(is_gone(process, 20))
 

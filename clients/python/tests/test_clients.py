@@ -7,6 +7,7 @@ The environment's DESK names the program; without it crates/desk/out/desk is tak
 import csv
 import gzip
 import os
+import pickle
 import re
 import signal
 import struct
@@ -19,13 +20,7 @@ import warnings
 import zlib
 from pathlib import Path
 
-sys.dont_write_bytecode = True
-ROOT = Path(__file__).resolve().parents[3]
-CLIENTS, EXAMPLES = ROOT / "clients/python", ROOT / "examples"
-sys.path.insert(0, str(CLIENTS))
-
-from desk import (  # noqa: E402
-    BUILT,
+from desk import (
     Desk,
     Ended,
     Malformed,
@@ -35,13 +30,24 @@ from desk import (  # noqa: E402
     Settling,
     Trouble,
     Window,
+    meanings,
 )
-from picture import Squares, colors_of, framed  # noqa: E402
+from desk.colors import colors_of
+from desk.drawing import framed
+from desk.formats.macrocell import Quadtree
+from desk.meanings import Meaning
+from places import CLIENTS, EXAMPLES, PROGRAM, ROOT
 
-PROGRAM = os.environ.get("DESK") or BUILT
+REFUSALS, _, CAUSES = (ROOT / "docs/REFUSALS.md").read_text(encoding="utf-8").partition("## Why")
 X_RULE = (
     "@RULE X\n@TABLE\nn_states:2\nneighborhood:oneDimensional\nsymmetries:none\n0,1,0,1\n0,0,1,1\n1,0,0,0\n1,1,1,0\n"
 )
+
+
+def rows_of(text):
+    """The cells of the lines of a document's tables that begin with a number."""
+    lines = re.findall(r"(?m)^\| (\d+ \| .*) \|$", text)
+    return [line.split(" | ") for line in lines]
 
 
 def called(script, *words, python=sys.executable):
@@ -135,7 +141,10 @@ class DeskTest(WithFiles):
             with self.subTest(name), self.assertRaises(Refused) as caught:
                 call()
             found = caught.exception
-            self.assertEqual((found.number, found.name, found.place, str(found)), (number, name, place, text))
+            self.assertEqual((found.number, found.name, found.place, found.brief), (number, name, place, text))
+            (means, remedy), = [row[3:] for row in rows_of(REFUSALS) if row[0] == str(number)]
+            self.assertEqual(str(found), f"{text}\nIt means: {means}.\nWhat to do: {remedy}.")
+            self.assertEqual(str(pickle.loads(pickle.dumps(found))), str(found))
         self.desk.set([(0, 0, 1)])
         self.assertEqual(self.desk.show(self.desk.mark(0, "counts")), {1: 1})
 
@@ -149,7 +158,7 @@ class DeskTest(WithFiles):
         ]
         for name, text, told in cases:
             path = self.file(name, text)
-            with self.subTest(name), self.assertRaisesRegex(Refused, told + "$"):
+            with self.subTest(name), self.assertRaisesRegex(Refused, told + "\nIt means: "):
                 (self.desk.rule if name.endswith("rule") else self.desk.start)(path)
 
     def test_what_no_command_can_have_is_not_sent(self):
@@ -253,7 +262,8 @@ class DeskTest(WithFiles):
                 self.desk.rule(self.file(name, text))
         with self.assertRaisesRegex(Trouble, "nowhere"):
             self.desk.rule("nowhere.rule")
-        with self.assertRaisesRegex(Trouble, "desk.sh"):
+        told = "no program /nowhere/desk .No such file.*: .*desk.sh --version builds one; DESK or"
+        with self.assertRaisesRegex(Trouble, told):
             Desk("/nowhere/desk")
 
     def test_what_cannot_be_computed_is_pending(self):
@@ -273,9 +283,15 @@ class DeskTest(WithFiles):
         for options in (least, most):
             for name, value in options.items():
                 beyond = value - 1 if options is least else value + 1
-                with self.subTest(name), Desk(PROGRAM, **{name: beyond}) as desk:
-                    with self.assertRaisesRegex(Ended, f"status 2: error: invalid value '{beyond}'.*--{name}"):
-                        desk.settle()
+                why = f"refused its options: invalid value '{beyond}' for '--{name} <N>': [^\n]*$"
+                with self.subTest(name), self.assertRaisesRegex(Malformed, why):
+                    Desk(PROGRAM, **{name: beyond})
+
+    def program(self, commands):
+        """A program that stands for another one, by the commands of a shell."""
+        path = self.file("program", f"#!/bin/sh\n{commands}")
+        os.chmod(path, 0o755)
+        return path
 
     def test_a_closed_desk(self):
         self.desk.set([(0, 0, 1)])
@@ -287,14 +303,14 @@ class DeskTest(WithFiles):
         self.assertEqual(self.desk.revision, 1)
 
     def test_a_program_that_ends_early(self):
-        quits = self.file("quits", "#!/bin/sh\nread line\necho no more >&2\nexit 3\n")
-        os.chmod(quits, 0o755)
-        with Desk(quits) as desk:
+        quits = "read line\necho no more >&2\nexit 3\n"
+        with Desk(self.program(f"read line\necho listed 0\n{quits}")) as desk:
             for _ in range(2):
-                with self.assertRaisesRegex(Ended, "status 3: no more"):
+                with self.assertRaisesRegex(Ended, "status 3: no more") as caught:
                     desk.mark(1, "counts")
-        with Desk(PROGRAM, squares=1) as desk, self.assertRaisesRegex(Ended, "status 2: error: invalid value '1'"):
-            desk.settle()
+                self.assertEqual((caught.exception.status, caught.exception.said), (3, "no more"))
+        with self.assertRaisesRegex(Ended, "status 3: no more"):
+            Desk(self.program(quits))
 
 
 class CurveTest(WithFiles):
@@ -315,6 +331,16 @@ class CurveTest(WithFiles):
             found = list(csv.reader(file))
         self.assertEqual(found, [["generation", "state 1", "state 2"], *wanted])
         self.assertEqual([line.split() for line in run.stdout.splitlines()[1:]], wanted)
+
+    def test_generations_as_powers_and_rows_on_standard_output(self):
+        words = ("examples/brain.rule", "examples/brain.rle", "--points", 3)
+        run = called("curve.py", *words, "--to", "2^5", "--csv", "-")
+        self.assertEqual(run.returncode, 0, run.stderr)
+        self.assertEqual([line.split(",")[0] for line in run.stdout.splitlines()], ["generation", "0", "16", "32"])
+        self.assertFalse((ROOT / "-").exists())
+        run = called("curve.py", *words, "--to", "2^61")
+        self.assertEqual(run.returncode, 2)
+        self.assertIn("take a generation from 0 to 2^60", " ".join(run.stderr.split()))
 
     def test_too_few_squares_keep_what_is_known(self):
         words = ("--to", 2**16, "--points", 3, "--squares", 3000)
@@ -357,6 +383,15 @@ class PictureTest(WithFiles):
         self.assertEqual([line.rstrip(".") for line in run.stdout.splitlines()], rows)
         run = called("picture.py", "examples/wire.rule", "examples/wire.rle", "--at", 1, "--window", 0, 0, 3, 2)
         self.assertEqual(run.stdout, ".23\n1..\n")
+        again = called("picture.py", "examples/wire.rule", "examples/wire.rle", "--at", "1e0", "--window", 0, 0, 3, 2)
+        self.assertEqual((again.returncode, again.stdout), (0, run.stdout), again.stderr)
+
+    def test_a_png_on_standard_output(self):
+        words = ["examples/wire.rle", "--at", "2^4", "--png", "-", "--desk", PROGRAM]
+        run = subprocess.run([CLIENTS / "picture.py", *words], cwd=ROOT, capture_output=True, timeout=50)
+        self.assertEqual(run.returncode, 0, run.stderr)
+        self.assertTrue(run.stdout.startswith(b"\x89PNG"))
+        self.assertFalse((ROOT / "-").exists())
 
     def test_a_png_has_the_cells_in_the_colors_of_the_rule(self):
         path = self.folder / "wire.png"
@@ -365,11 +400,11 @@ class PictureTest(WithFiles):
         chunks, rest = {}, path.read_bytes()[8:]
         while rest:
             (size,) = struct.unpack(">I", rest[:4])
-            chunks[rest[4:8]], rest = rest[8 : 8 + size], rest[12 + size :]
+            chunks[rest[4:8]], rest = rest[8:8 + size], rest[12 + size:]
         width, height = struct.unpack(">II", chunks[b"IHDR"][:8])
         lines = zlib.decompress(chunks[b"IDAT"])
         self.assertEqual((width, height, len(lines)), (24 * 16, 5 * 16, (24 * 16 + 1) * 5 * 16))
-        self.assertEqual(list(lines[1 : 1 + 16 * 9 : 16]), [0, 1, 2, 3, 3, 3, 3, 3, 0])
+        self.assertEqual(list(lines[1:1 + 16 * 9:16]), [0, 1, 2, 3, 3, 3, 3, 3, 0])
         self.assertEqual(list(chunks[b"PLTE"][:12]), [32, 32, 40, 80, 160, 255, 255, 255, 255, 255, 160, 0])
 
     def test_a_pattern_beyond_the_rle_view_is_scaled_down(self):
@@ -379,7 +414,7 @@ class PictureTest(WithFiles):
         self.assertIn(f"1024 by 1024 from ({-2**60}, {-2**60}), {2**51} by {2**51} cells a pixel", run.stderr)
 
     def test_macrocell_texts_are_drawn_as_their_cells(self):
-        squares = Squares("[M2] (experiment desk)\n#R X\n#G 0\n1 0 1 2 3\n2 0 1 0 0\n3 0 2 2 0\n")
+        squares = Quadtree("[M2] (experiment desk)\n#R X\n#G 0\n1 0 1 2 3\n2 0 1 0 0\n3 0 2 2 0\n")
         self.assertEqual(squares.box(), Window(-2, -4, 6, 6))
         rows = squares.drawn(framed(Window(-4, -4, 8, 8), 8, 8))
         live = {(x - 4, y - 4): state for y, row in enumerate(rows) for x, state in enumerate(row) if state}
@@ -406,10 +441,6 @@ class PictureTest(WithFiles):
 
 
 class DocumentsTest(unittest.TestCase):
-    def rows(self):
-        text = (ROOT / "docs/REFUSALS.md").read_text(encoding="utf-8")
-        return re.findall(r"(?m)^\| (\d+) \| (\w+) \| ([^|]+) \|", text)
-
     def test_refusals_are_those_of_the_code(self):
         wanted, code = {}, ""
         for path in sorted(ROOT.glob("crates/*/src/*.rt")):
@@ -424,15 +455,22 @@ class DocumentsTest(unittest.TestCase):
                     wanted.setdefault(int(number), set()).add((names[variant], of if variant in placed else "-"))
             code += text
         self.assertIn("Cause::NumbersSpent => 73", code)
-        found = {int(number): {(name, place)} for number, name, place in self.rows()}
+        found = {int(number): {(name, place)} for number, name, place, *_ in rows_of(REFUSALS)}
         self.assertEqual({it: found.get(it) for it in wanted}, wanted)
         self.assertLessEqual(set(found) - set(wanted), {60, 73})
-        self.assertEqual(len(found), len(self.rows()))
+        self.assertEqual(len(found), len(rows_of(REFUSALS)))
+
+    def test_refusals_and_causes_mean_what_the_documents_say(self):
+        wanted = {int(number): Meaning(name, means, remedy) for number, name, _, means, remedy in rows_of(REFUSALS)}
+        self.assertGreater(len(wanted), 45)
+        self.assertEqual(meanings.REFUSALS, wanted)
+        names = {number: meaning.name for number, meaning in wanted.items()}
+        self.assertEqual(meanings.CAUSES, {int(number): Meaning(names.get(int(number), ""), means, remedy)
+                                           for number, means, remedy in rows_of(CAUSES)})
 
     def test_causes_are_those_of_the_code(self):
         code = (ROOT / "crates/desk_core/src/cause.rt").read_text(encoding="utf-8")
-        text = (ROOT / "docs/REFUSALS.md").read_text(encoding="utf-8").split("## Why")[1]
-        self.assertEqual({"0", *re.findall(r"Cause::\w+ => (\d+)", code)}, set(re.findall(r"(?m)^\| (\d+) \|", text)))
+        self.assertEqual({"0", *re.findall(r"Cause::\w+ => (\d+)", code)}, {row[0] for row in rows_of(CAUSES)})
 
     def test_files_are_those_of_the_scripts(self):
         script = (EXAMPLES / "wire.script").read_text(encoding="utf-8")
@@ -450,10 +488,17 @@ class DocumentsTest(unittest.TestCase):
         helped = re.findall(r"(?m)^  ([a-z]+)\b", said.split("Commands of a script")[1].split("\n\n")[0])
         self.assertEqual(set(table), set(helped))
 
+    def test_the_program_answers_help_by_the_list_of_its_own_help(self):
+        said = subprocess.run([PROGRAM, "--help"], capture_output=True, text=True, timeout=50).stdout
+        listed = said[said.index("Commands of a script"):said.index("\nExit status:")]
+        found = subprocess.run([PROGRAM], input="help\nhelp me\n", capture_output=True, text=True, timeout=50)
+        self.assertEqual(found.stdout, f"help {len(listed)}\n{listed}refused 80 BadCommand 2\n")
+        self.assertEqual(found.stderr, "")
+
     def test_the_clients_show_help_with_an_example(self):
         for script in ("curve.py", "picture.py"):
             run = called(script, "--help")
-            self.assertIn("examples/brain.rule examples/brain.rle", run.stdout)
+            self.assertIn("examples/brain.rle", run.stdout)
 
 
 if __name__ == "__main__":

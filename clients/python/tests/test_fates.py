@@ -3,20 +3,14 @@
     python3 -m unittest discover -s clients/python/tests -p test_fates.py
 """
 import hashlib
-import os
-import sys
 import unittest
-from pathlib import Path
 
-sys.dont_write_bytecode = True
-sys.path.insert(0, str(Path(__file__).resolve().parents[1]))
+from desk import Desk, Malformed, Window
+from desk.bounding_box import bounding_box
+from desk.sweep.fates import MOST_PERIOD, Fate, fate, growth, pair, placed, populations
+from desk.sweep.soups import Soup, rle, rows_of, states_of
+from places import EXAMPLES, PROGRAM
 
-from desk import BUILT, Desk, Malformed, Window  # noqa: E402
-from fates import MOST_PERIOD, Fate, box, fate, growth, pair, placed, populations  # noqa: E402
-from soups import Soup, rle, rows_of, states_of  # noqa: E402
-
-PROGRAM = os.environ.get("DESK") or BUILT
-EXAMPLES = Path(__file__).resolve().parents[3] / "examples"
 LIFE = {
     "an empty plane": ("!", Fate("died")),
     "one cell": ("o!", Fate("died")),
@@ -84,16 +78,17 @@ class FateTest(unittest.TestCase):
 
     def test_boxes_and_populations(self):
         self.desk.lifelike("B3/S23")
-        self.assertIsNone(box(self.desk, 0))
+        self.assertIsNone(bounding_box(self.desk, 0))
         self.desk.start_text("x = 3, y = 3\nbo$2bo$3o20$30b2o$30b2o!\n")
-        found = [box(self.desk, it) for it in (0, 0, 40)]
+        found = [bounding_box(self.desk, it) for it in (0, 0, 40)]
         self.assertEqual(found[1:], [Window(0, 0, 32, 24), Window(10, 10, 22, 14)])
         self.assertEqual(growth(*found[1:], 40), -0.25)
         self.assertEqual((growth(None, found[1], 16), growth(None, None, 5)), (2.0, 0.0))
         self.assertEqual(populations(self.desk, [0, 4, 8]), [(0, 9), (4, 9), (8, 9)])
         self.desk.lifelike("B1/S012345678")
         self.desk.start_text("x = 1, y = 1\no!\n")
-        self.assertEqual(box(self.desk, 900), Window(-900, -900, 1801, 1801))  # more cells than an RLE view shows
+        wide = bounding_box(self.desk, 900)  # of more cells than an RLE view shows
+        self.assertEqual(wide, Window(-900, -900, 1801, 1801))
 
 
 class SoupTest(unittest.TestCase):

@@ -3,7 +3,6 @@ compared with a fresh run of the document as it was then. It runs with the other
 
     python3 -m unittest discover -s clients/python/tests -p test_front_end.py
 """
-import os
 import random
 import sys
 import tempfile
@@ -11,14 +10,9 @@ import time
 import unittest
 from pathlib import Path
 
-sys.dont_write_bytecode = True
-CLIENTS = Path(__file__).resolve().parents[1]
-sys.path.insert(0, str(CLIENTS))
+from desk import Desk, Polling, Refused, Settling, Window
+from places import EXAMPLES, PROGRAM
 
-from desk import BUILT, Desk, Polling, Refused, Settling, Window  # noqa: E402
-
-PROGRAM = os.environ.get("DESK") or BUILT
-EXAMPLES = CLIENTS.parents[1] / "examples"
 EDITS, FARTHEST, MOST = 200, 120, 6
 VIEWS = ("counts", "counts", "rle", "mc", Window(-12, -12, 30, 30))
 # A call that waits for no worker takes some milliseconds. On a busy machine it may be put off for long.

@@ -3,19 +3,13 @@ tests, or alone by
 
     python3 -m unittest discover -s clients/python/tests -p test_lifelike.py
 """
-import os
 import random
-import sys
 import unittest
-from pathlib import Path
 
-sys.dont_write_bytecode = True
-sys.path.insert(0, str(Path(__file__).resolve().parents[1]))
+from desk import Desk, Malformed, Window
+from desk.rules.lifelike import is_same_rule, meaning, rule_text
+from places import PROGRAM
 
-from desk import BUILT, Desk, Malformed, Window  # noqa: E402
-from lifelike import is_same_rule, meaning, rule_text  # noqa: E402
-
-PROGRAM = os.environ.get("DESK") or BUILT
 SIDE = 40
 
 
@@ -73,10 +67,22 @@ class LifeLikeTest(unittest.TestCase):
             self.assertIn("rule = B2/S345/C4\n", desk.show(desk.mark(0, "rle")))
             self.assertEqual(desk.revision, 2)
 
+    def test_letters_say_how_neighbours_lie_as_in_golly(self):
+        for name in ("B2/S3c4", "b2-a/s12", "B2/S34H"):
+            with self.subTest(name), Desk(PROGRAM) as desk, Desk(PROGRAM) as other:
+                desk.lifelike(name)
+                other.rule(name)
+                self.assertEqual(desk.script(), other.script())
+                desk.set([(0, 0, 1)])
+                self.assertEqual(desk.show(desk.mark(0, "counts")), {1: 1})
+        self.assertFalse(is_same_rule("B2/S3c4", "B2/S3/C4"))
+        self.assertTrue(is_same_rule("b2/s3/c4", "B2/S3C4"))
+
     def test_what_is_no_such_rule(self):
         cases = [("WireWorld", "names no"), ("B9/S23", "names no"), ("B2a/S12", "names no"), ("B3/S23V", "names no"),
                  ("B3/S23:T30,20", "names no"), ("3", "names no"), ("", "names no"), ("B3/S23\nend", "names no"),
-                 ("345/2/1", "has 1 states"), ("345/2/257", "2 to 256"), ("B03/S23", "B0"), ("23/03", "B0")]
+                 ("B2/S3c4", "names no"), ("345/2/1", "has 1 states"), ("345/2/257", "2 to 256"), ("B03/S23", "B0"),
+                 ("23/03", "B0")]
         for name, told in cases:
             with self.subTest(name), self.assertRaisesRegex(Malformed, told):
                 rule_text(name)

@@ -2,7 +2,8 @@
 
     python3 -m unittest discover -s clients/python/tests -p test_looking.py
 """
-import os
+import contextlib
+import random
 import sys
 import tempfile
 import threading
@@ -12,12 +13,7 @@ from importlib import util
 from pathlib import Path
 from unittest import mock
 
-sys.dont_write_bytecode = True
-CLIENTS = Path(__file__).resolve().parents[1]
-sys.path.insert(0, str(CLIENTS))
-
-from desk import (  # noqa: E402
-    BUILT,
+from desk import (
     Bookmark,
     Branch,
     Desk,
@@ -32,9 +28,10 @@ from desk import (  # noqa: E402
     Trouble,
     Window,
 )
+from desk.accepted import Accepted
+from desk.transport import Command
+from places import EXAMPLES, PROGRAM
 
-PROGRAM = os.environ.get("DESK") or BUILT
-EXAMPLES = CLIENTS.parents[1] / "examples"
 ENDLESS = 2**40 + 12345  # the brain's pattern there takes longer than anybody waits
 
 
@@ -185,13 +182,62 @@ class LookingTest(WithBrain):
         for reply in ("listed 1", f"{branch}listed 2", f"{branch}bye", "listed 0\\nok 1", "listed"):
             with self.subTest(reply), tempfile.TemporaryDirectory() as folder:
                 odd = Path(folder) / "odd"
-                odd.write_text(f"#!/bin/sh\nprintf '{reply}\\n'\nexec sleep 60\n", encoding="utf-8")
+                said = f"read line\necho listed 0\nread line\nprintf '{reply}\\n'\nexec sleep 60\n"
+                odd.write_text(f"#!/bin/sh\n{said}", encoding="utf-8")
                 odd.chmod(0o755)
                 with Desk(str(odd)) as desk:
                     with self.assertRaisesRegex(Trouble, "the call was broken off by"):
                         desk.list()
                     with self.assertRaisesRegex(Trouble, "the call before was broken off by"):
                         desk.peek(1)
+
+
+class PollingTest(WithBrain):
+    def settled(self, polls, seed):
+        """How a random document settles and what is known of it then, by a desk that polls or one that waits."""
+        chance = random.Random(seed)
+        desk = self.opened(polls=polls, squares=chance.choice((400, 1 << 20)), workers=1)
+        fork = chance.randrange(20)
+        branch = desk.branch(0, fork)
+        for on in (0, branch):
+            desk.at(fork + chance.randrange(30), [(chance.randrange(9), chance.randrange(9), 1)], on)
+            desk.every(3, fork + 5, 2**60, [(chance.randrange(9), chance.randrange(9), 2)], on)
+        views = [chance.choice(("counts", "rle", "mc", Window(-9, -9, 20, 20))) for _ in range(8)]
+        marks = [desk.mark(fork + 5 * it, view, chance.choice((0, branch))) for it, view in enumerate(views)]
+        for mark in chance.sample(marks, 3):  # the others are computed by `settle` alone
+            with contextlib.suppress(Pending):
+                desk.show(mark)
+        ended = desk.settle()
+        known = {it.id: desk.show(it.id) for it in desk.list().bookmarks if it.is_current}
+        self.assertEqual(len(known) + ended.pending, len(marks), seed)
+        return ended.cause, known
+
+    def test_desks_that_poll_and_that_wait_find_the_same(self):
+        causes, common = set(), 0
+        for seed in range(30):
+            (cause, found), (wanted_cause, wanted) = self.settled(True, seed), self.settled(False, seed)
+            self.assertEqual(cause, wanted_cause, seed)
+            if cause:  # where a branch needs too many squares, what is known of the other one depends on the moment
+                found, wanted = ({it: one[it] for it in one if it in other}
+                                 for one, other in ((found, wanted), (wanted, found)))
+                common += len(found)
+            self.assertEqual(found, wanted, seed)
+            causes.add(cause)
+        self.assertEqual(causes, {0, 71})
+        self.assertGreater(common, 20)
+
+    def test_how_many_steps_there_are_at_most(self):
+        accepted, ids = Accepted(), {"at": 0, "every": 0, "mark": 0}
+        cases = [("rule", 1), ("mark 5 rle", 1), ("on 1 mark 5 window 0 0 1 1", 2), ("at 7 set 0 0 1", 3),
+                 ("every 3 1 9 set 0 0 1", 6), ("change 1 every 2 0 7 set 0 0 1", 9), ("change 2 7 set 0 0 1", 7),
+                 ("drop 1", 3), ("unmark 1", 2), ("on 1 every 1 0 1152921504606846976 set 0 0 1", 8193),
+                 ("drop 3", 2), ("drop 2", 1)]
+        for line, steps in cases:
+            command = Command(line)
+            kind = "at" if command.kind == "every" else command.kind
+            ids[kind] = ids.get(kind, 0) + 1
+            accepted.add(command, ["ok", "1", "id", str(ids[kind])])
+            self.assertEqual(accepted.steps, steps, line)
 
 
 class ArrayTest(WithBrain):

@@ -3,20 +3,16 @@ import glob
 import re
 import shutil
 import subprocess
-import sys
 import tempfile
 import unittest
 import warnings
 from pathlib import Path
 
-CLIENTS = Path(__file__).resolve().parent.parent
-sys.path[:0] = [str(CLIENTS), str(CLIENTS / "tests")]
-
-from desk import BoardWarning, Desk, RuleNameWarning, Window  # noqa: E402
-from desk_page.files import file_of  # noqa: E402
-from mcell import is_mcell, rle_of, rule_named, wraps  # noqa: E402
-from test_clients import EXAMPLES, PROGRAM  # noqa: E402
-from trouble import Trouble  # noqa: E402
+from desk import BoardWarning, Desk, RuleNameWarning, Window
+from desk.errors import Trouble
+from desk.formats.mcell import is_mcell, rle_of, rule_named, wraps
+from desk.page.files import file_of
+from places import EXAMPLES, PROGRAM
 
 GOLLY = "/usr/share/golly"
 FILES = sorted(glob.glob(f"{GOLLY}/Patterns/**/*.mcl", recursive=True))
@@ -54,7 +50,7 @@ class Mcell(unittest.TestCase):
             (b"#RULE 23/3", "23/3"),
             (b"#GAME Life\n#RULE 23/3", "23/3"),
             (b"#GAME Generations\r\n#RULE 345/2/4\r", "345/2/4"),
-            (b"#GAME Larger than Life\n#RULE R5,C0,M1,S34..58,B34..45,NM", ""),
+            (b"#GAME Larger than Life\n#RULE R5,C0,M1,S34..58,B34..45,NM", "R5,C0,M1,S34..58,B34..45,NM"),
             (b"#GAME Rules table\n#RULE 1,0,0", ""),
             (b"#GAME Rules table\n#GOLLY WireWorld\n#RULE 1,0,0", "WireWorld"),
         ):

@@ -12,24 +12,22 @@ import subprocess
 import sys
 import time
 import unittest
-from pathlib import Path
 
-sys.path.insert(0, str(Path(__file__).resolve().parent))
-
-from test_page_with import BLINKER, CLIENTS, EXAMPLES, LIFE, PROGRAM, SETUP, here_or_elsewhere, slack, soup  # noqa: E402
+from places import CLIENTS, EXAMPLES, PACKAGE, PROGRAM, WITH_PACKAGE
+from test_page_with import BLINKER, LIFE, SETUP, here_or_elsewhere, slack, soup
 
 try:
     import aiohttp
-    from desk_page.document import (
+    from desk.errors import Ended, Trouble
+    from desk.page.document import (
         Bookmark, Branch, Document, File, Intervention, Names, Step, difference, script_of)
-    from desk_page.edits import painted, without_branch
-    from desk_page.files import file_of, states_of
-    from desk_page.refusals import Explained
-    from desk_page.script import commands_of, taken
-    from desk_page.server import HOST, Page
-    from desk_page.session import Session
-    from trouble import Trouble
-    from words import Window
+    from desk.page.edits import without_branch
+    from desk.page.files import file_of, states_of
+    from desk.page.painting import Place, painted
+    from desk.page.script import commands_of, taken
+    from desk.page.server import HOST, Page
+    from desk.page.pair import Pair
+    from desk.words import Window
 except ImportError:
     aiohttp = None
 
@@ -80,7 +78,7 @@ class Tab:
 
 class PageTest(unittest.IsolatedAsyncioTestCase):
     async def asyncSetUp(self):
-        self.session = Session([PROGRAM], Explained())
+        self.session = Pair([PROGRAM])
         asyncio.get_running_loop().set_debug(False)
         await self.session.begin()
         self.page = Page(self.session)
@@ -97,10 +95,17 @@ class PageTest(unittest.IsolatedAsyncioTestCase):
         await tab.next()
         return tab
 
-    async def file(self, name, data):
-        async with self.http.post(f"{self.page.address}file/{name}", data=data, headers=self.origin) as answer:
+    async def files(self, *files, fit=""):
+        """Gives files together, each a name and its bytes."""
+        form = aiohttp.FormData({"fit": fit})
+        for name, data in files:
+            form.add_field("file", data, filename=name)
+        async with self.http.post(f"{self.page.address}files", data=form, headers=self.origin) as answer:
             self.assertEqual(answer.status, 200)
             return await answer.json()
+
+    async def file(self, name, data):
+        return await self.files((name, data))
 
     async def status(self, address, headers=None, method="GET"):
         async with self.http.request(method, address, headers=headers) as answer:
@@ -119,7 +124,7 @@ class PageTest(unittest.IsolatedAsyncioTestCase):
             (f"http://{HOST}:{port}/%C3%A4/", {}, "GET"),
             (address, {"Host": f"evil.example:{port}"}, "GET"), (address, {"Host": f"localhost:{port}"}, "GET"),
             (address, {"Origin": "http://evil.example"}, "GET"), (address, {"Origin": "null"}, "GET"),
-            (address + "file/a.rule", {}, "POST"), (address + "file/a.rule", {"Origin": "http://evil.example"}, "POST"),
+            (address + "files", {}, "POST"), (address + "files", {"Origin": "http://evil.example"}, "POST"),
             (address + "socket", {"Upgrade": "websocket", "Connection": "Upgrade"}, "GET"),
         ]
         for place, headers, method in cases:
@@ -131,7 +136,7 @@ class PageTest(unittest.IsolatedAsyncioTestCase):
             with self.assertRaises(aiohttp.WSServerHandshakeError) as raised:
                 await self.http.ws_connect(address + "socket", headers=headers)
             self.assertEqual(raised.exception.status, 403)
-        self.assertEqual(self.session.tabs, [])
+        self.assertEqual(self.session.views.tabs, [])
 
     async def test_it_listens_on_this_machine_alone_and_serves_its_own_files_alone(self):
         self.assertEqual(self.page._runner.addresses[0][0], HOST)
@@ -200,6 +205,20 @@ class PageTest(unittest.IsolatedAsyncioTestCase):
         self.assertEqual([it["id"] for it in tab.state["branches"]], [1, 2])
         self.assertEqual(await tab.text(2, 9, "counts"), "1 3\n")
 
+    async def test_of_two_interventions_the_last_wins_also_after_one_was_removed_and_came_back(self):
+        tab = await self.tab()
+        await self.file("wire.rule", (EXAMPLES / "wire.rule").read_bytes())
+        await tab.ask("paint", branch=0, generation=3, cells=[[0, 0, 3]])
+        await tab.ask("paint", branch=0, generation=4, cells=[[0, 0, 2]])
+        await tab.ask("change", id=1, first=4, distance=0, last=0)
+        self.assertEqual(await tab.text(0, 4, "window 0 0 1 1"), "2\n")
+        await tab.ask("remove", kind="interventions", id=1)
+        await tab.ask("undo")
+        self.assertEqual(await tab.text(0, 4, "window 0 0 1 1"), "2\n")
+        script = self.session.script() + b"mark 4 window 0 0 1 1\nshow 1\n"
+        run = subprocess.run([PROGRAM], input=script, capture_output=True, check=True, timeout=120)
+        self.assertTrue(run.stdout.endswith(b"current 2\n2\n"), run.stdout)
+
     async def test_refusals_say_the_line_and_what_helps(self):
         refused = (await self.file("bad.rule", LIFE.replace(b"num_states=2", b"num_states=x")))["refused"]
         self.assertEqual((refused["number"], refused["name"], refused["line"]), (12, "BadTree", "num_states=x"))
@@ -228,7 +247,7 @@ class PageTest(unittest.IsolatedAsyncioTestCase):
             {"do": "paint", "branch": 0, "generation": 0, "cells": [[0, 0, "1\nquit"]]}, {"do": "look", "looks": 3},
             {"do": "look", "looks": [[0, 1, "counts\nquit"]] * 2 + [[0]]},
             {"do": "look", "looks": [[0, 1, "counts"]] * 1000},
-            {"do": "lifelike", "name": "B0/S"}, {"do": []}, {"do": "change", "id": 1},
+            {"do": "rule", "name": "B0/S"}, {"do": []}, {"do": "change", "id": 1},
         ]
         for case in cases:
             self.assertIn("refused", await tab.ask(**{"what": case.pop("do"), **case}), case)
@@ -306,25 +325,42 @@ class PageTest(unittest.IsolatedAsyncioTestCase):
         await tab.ask("mark", branch=0, generation=7, view="counts")
         self.assertEqual(await tab.text(0, 7, "window -2 0 5 1"), "0 0 1 0 0\n")
         for it in range(2):
-            os.kill(self.session.program.pid, signal.SIGKILL)
-            if it:
-                refused = (await tab.ask("mark", branch=0, generation=9, view="counts"))["refused"]
-                self.assertIn("the edit wasn't done", refused["words"])
-            else:
-                self.session.wake()
-            await tab.until(lambda tab, it=it: len(tab.words) == it + 1)
-            self.assertIn("started again from the saved script", tab.words[-1])
+            os.kill(self.session.keeper.program.pid, signal.SIGKILL)
+            if it:  # the edit under way is done too
+                self.assertNotIn("refused", await tab.ask("mark", branch=0, generation=9, view="counts"))
+            await tab.until(lambda tab, it=it: len(tab.words) == it + 1, 1.5 * slack())
+            self.assertIn("started again from the saved script, with all edits", tab.words[-1])
             await tab.until(lambda tab: tab.state["bookmarks"][0]["isCurrent"])
             self.assertEqual(await tab.text(0, 7, "window -2 0 5 1"), "0 0 1 0 0\n")
-        self.assertEqual(len(self.session.document.bookmarks), 1)
+        self.assertEqual([it.generation for it in self.session.document.bookmarks.values()], [7, 9])
         for it in range(2):
-            os.kill(self.session.program.pid, signal.SIGKILL)
-            self.session.wake()
+            os.kill(self.session.keeper.program.pid, signal.SIGKILL)
             await tab.until(lambda tab, it=it: len(tab.words) == it + 3)
         await tab.until(lambda tab: tab.state["isLost"])
         self.assertIn("Try again", tab.words[-1])
         await tab.ask("retry")
         await tab.until(lambda tab: not tab.state["isLost"] and tab.state["bookmarks"][0]["isCurrent"])
+
+    async def test_nothing_of_a_lost_program_is_shown_as_known(self):
+        tab = await self.tab()
+        await tab.ask("mark", branch=0, generation=0, view="counts")
+        await tab.until(lambda it: it.state["bookmarks"][0]["isCurrent"])
+        async with self.session._turn:  # nothing is collected meanwhile
+            os.kill(self.session.keeper.program.pid, signal.SIGKILL)
+            await asyncio.sleep(0.1)
+            await self.session.keeper.mend(Ended("it was lost"))
+            self.assertFalse(self.session.state()["bookmarks"][0]["isCurrent"])
+        await tab.until(lambda it: it.state["bookmarks"][0]["isCurrent"])
+
+    async def test_what_was_closed_is_not_started_again(self):
+        program = self.session.keeper.program
+        await self.session.close()
+        await asyncio.wait_for(self.session.watch(), 20)
+        await self.session.keeper.mend(Ended("it ended"))
+        with self.assertRaises(Trouble):
+            await self.session.keeper.anew(Document())
+        self.assertTrue(program.has_ended)
+        self.assertIsNone(self.session.keeper.program)
 
     async def test_a_cause_stays_shown_until_it_is_none(self):
         self.session._is_given_up = False
@@ -350,17 +386,17 @@ class PageTest(unittest.IsolatedAsyncioTestCase):
         await self.file("blinker.rle", BLINKER)
         self.assertEqual(await one.text(0, 1, "counts"), "1 3\n")
         self.assertEqual(await two.text(0, 1, "counts"), "1 3\n")
-        self.assertEqual(len(self.session.looks), 1)
+        self.assertEqual(len(self.session.views.held), 1)
         await one.ask("mark", branch=0, generation=3, view="counts")
         await two.until(lambda it: len(it.state["bookmarks"]) == 1)
         for tab in (one, two):
             await tab.socket.close()
         for _ in range(100):
-            if not self.session.looks:
+            if not self.session.views.held:
                 break
             await asyncio.sleep(0.02)
-        self.assertEqual((self.session.looks, self.session.tabs), ({}, []))
-        lines = (await self.session.program.ask(b"list\n")).lines
+        self.assertEqual((self.session.views.held, self.session.views.tabs), ({}, []))
+        lines = (await self.session.keeper.program.ask(b"list\n")).lines
         self.assertEqual([it[0] for it in lines], ["bookmark"])
 
 
@@ -369,31 +405,17 @@ class DocumentTest(unittest.TestCase):
     def test_steps_from_one_document_to_another(self):
         rule, start = File("rule", "a", b"@RULE a\n"), File("start rle", "b", b"x = 1, y = 1\no!")
         one = Document(
-    rule, start, (((0, 0, 1),),), {
-        1: Branch(
-            0, 5), 2: Branch(
-                1, 6)}, {
-                    1: Intervention(
-                        1, 7, 0, 7, ((0, 0, 1),))}, {
-                            1: Bookmark(
-                                2, 9, "counts"), 2: Bookmark(
-                                    0, 1, Window(
-                                        0, 0, 2, 2))})
+            rule, start, (((0, 0, 1),),),
+            {1: Branch(0, 5), 2: Branch(1, 6)},
+            {1: Intervention(1, 7, 0, 7, ((0, 0, 1),))},
+            {1: Bookmark(2, 9, "counts"), 2: Bookmark(0, 1, Window(0, 0, 2, 2))})
         self.assertEqual(difference(one, one), [])
-        self.assertEqual([it.what for it in difference(Document(), one)], [
-                         "rule", "start", "set", "branch", "branch", "at", "mark", "mark"])
+        self.assertEqual([it.what for it in difference(Document(), one)],
+                         ["rule", "start", "set", "branch", "branch", "at", "mark", "mark"])
         two = without_branch(one, 1)._replace(bookmarks={2: Bookmark(0, 4, Window(0, 0, 2, 2))})
-        self.assertEqual(
-    difference(
-        one, two), [
-            Step(
-                "unmark", 1), Step(
-                    "drop", 1), Step(
-                        "unbranch", 2), Step(
-                            "unbranch", 1), Step(
-                                "move", 2, Bookmark(
-                                    0, 4, Window(
-                                        0, 0, 2, 2)))])
+        self.assertEqual(difference(one, two), [
+            Step("unmark", 1), Step("drop", 1), Step("unbranch", 2), Step("unbranch", 1),
+            Step("move", 2, Bookmark(0, 4, Window(0, 0, 2, 2)))])
         other = one._replace(cells=(((1, 0, 1),),), bookmarks={**one.bookmarks, 2: Bookmark(0, 1, "mc")})
         self.assertEqual([it.what for it in difference(one, other)], ["unmark", "start", "set", "mark"])
         with self.assertRaises(Trouble):
@@ -402,16 +424,10 @@ class DocumentTest(unittest.TestCase):
     def test_a_script_is_read_back(self):
         cells = ((0, -3, 1), (2 ** 60, 5, 2))
         document = Document(
-    File(
-        "rule", "a", b"@RULE a\n"), None, (cells,), {
-            4: Branch(
-                0, 5), 7: Branch(
-                    4, 6)}, {
-                        3: Intervention(
-                            7, 7, 2, 11, cells), 8: Intervention(
-                                0, 0, 0, 0, cells)}, {
-                                    5: Bookmark(
-                                        7, 2 ** 60, "mc")})
+            File("rule", "a", b"@RULE a\n"), None, (cells,),
+            {4: Branch(0, 5), 7: Branch(4, 6)},
+            {3: Intervention(7, 7, 2, 11, cells), 8: Intervention(0, 0, 0, 0, cells)},
+            {5: Bookmark(7, 2 ** 60, "mc")})
         found = Document()
         counted = {"branches": 0, "interventions": 0, "bookmarks": 0}
         kinds = {"branch": "branches", "at": "interventions", "every": "interventions", "mark": "bookmarks"}
@@ -426,14 +442,24 @@ class DocumentTest(unittest.TestCase):
 
     def test_painting_takes_the_intervention_that_is_there(self):
         ids = iter(range(1, 9))
-        one = painted(Document(), 0, 0, ((0, 0, 1),), lambda kind: next(ids))
+        one = painted(Document(), Place(0, 0), ((0, 0, 1),), lambda kind: next(ids))
         self.assertEqual((one.cells, one.interventions), ((((0, 0, 1),),), {}))
-        two = painted(one, 0, 3, ((0, 0, 1), (1, 0, 1)), lambda kind: next(ids))
-        three = painted(two, 0, 3, ((0, 0, 2),), lambda kind: next(ids))
+        two = painted(one, Place(0, 3), ((0, 0, 1), (1, 0, 1)), lambda kind: next(ids))
+        three = painted(two, Place(0, 3), ((0, 0, 2),), lambda kind: next(ids))
         self.assertEqual(three.interventions, {1: Intervention(0, 3, 0, 3, ((0, 0, 2), (1, 0, 1)))})
-        four = painted(painted(three, 1, 3, ((5, 5, 1),), lambda kind: next(ids)),
-                       0, 4, ((5, 5, 1),), lambda kind: next(ids))
+        four = painted(painted(three, Place(1, 3), ((5, 5, 1),), lambda kind: next(ids)),
+                       Place(0, 4), ((5, 5, 1),), lambda kind: next(ids))
         self.assertEqual(sorted(four.interventions), [1, 2, 3])
+
+    def test_more_cells_than_a_command_may_have(self):
+        cells, ids = [(it, it % 7, 1) for it in range(25_000)], iter(range(1, 9))
+        start = painted(Document(), Place(0, 0), cells, lambda kind: next(ids))
+        self.assertEqual([len(it) for it in start.cells], [10_000, 10_000, 5_000])
+        one = painted(Document(), Place(0, 3), cells[:9_000], lambda kind: next(ids))
+        two = painted(one, Place(0, 3), cells[8_000:], lambda kind: next(ids))
+        self.assertEqual([len(it.cells) for it in two.interventions.values()], [10_000, 10_000, 5_000])
+        found = [cell for it in two.interventions.values() for cell in it.cells]
+        self.assertEqual(sorted(found), sorted(cells))
 
     def test_kinds_of_files(self):
         cases = (
@@ -457,38 +483,26 @@ class DocumentTest(unittest.TestCase):
         self.assertEqual(names.sent(Step("unbranch", 5)), b"unbranch 1\n")
 
     def test_no_line_of_javascript_is_too_long(self):
-        paths = sorted((CLIENTS / "desk_page/static").glob("*.js"))
+        paths = sorted((PACKAGE / "desk/page/static").glob("*.js"))
         self.assertGreater(len(paths), 10)
         for path in paths:
             for number, line in enumerate(path.read_text(encoding="utf-8").splitlines(), 1):
                 self.assertLessEqual(len(line), 120, f"{path.name}:{number}")
 
-    def test_every_refusal_is_explained(self):
-        explained = Explained()
-        self.assertGreater(len(explained.refusals), 45)
-        self.assertTrue(all(means for means, _ in explained.refusals.values()))
-        self.assertEqual(set(explained.causes), {0, 70, 71, 72, 73})
-
 
 class ScriptTest(unittest.TestCase):
     def test_it_says_what_to_install(self):
-        blocked = ("import sys; sys.modules['aiohttp'] = None; sys.argv = ['page.py']; sys.path.insert(0, {!r}); "
-                   "import page; sys.exit(page.main())")
-        run = subprocess.run([sys.executable, "-B", "-c", blocked.format(str(CLIENTS))],
-                             capture_output=True, text=True, timeout=120)
+        blocked = ("import sys; sys.modules['aiohttp'] = None; sys.argv = ['page.py']; "
+                   "from desk.page.command import main; sys.exit(main())")
+        run = subprocess.run([sys.executable, "-B", "-c", blocked],
+                             env=WITH_PACKAGE, capture_output=True, text=True, timeout=120)
         self.assertEqual(run.returncode, 1)
         self.assertIn("apt-get install python3-aiohttp", run.stderr)
 
     @unittest.skipUnless(aiohttp, f"there is no aiohttp; {SETUP}")
     def test_page_py_prints_its_address_and_ends_by_an_interrupt(self):
-        words = [sys.executable,
-    "-B",
-    str(CLIENTS / "page.py"),
-    str(EXAMPLES / "wire.rule"),
-    str(EXAMPLES / "wire.rle"),
-    "--no-browser",
-    "--desk",
-     PROGRAM]
+        files = (str(EXAMPLES / it) for it in ("wire.rule", "wire.rle"))
+        words = [sys.executable, "-B", str(CLIENTS / "page.py"), *files, "--no-browser", "--desk", PROGRAM]
         with subprocess.Popen(words, stdout=subprocess.PIPE, stderr=subprocess.PIPE, text=True) as run:
             self.assertRegex(run.stdout.readline(), r"^http://127\.0\.0\.1:\d+/[\w-]{20,}/\n$")
             run.send_signal(signal.SIGINT)
@@ -499,6 +513,10 @@ class ScriptTest(unittest.TestCase):
         run = subprocess.run([*words[:3], "--desk", "/no/program"], capture_output=True, text=True, timeout=120)
         self.assertEqual(run.returncode, 1)
         self.assertIn("/no/program", run.stderr)
+        run = subprocess.run([*words[:3], "--desk", PROGRAM, "--squares", "1"], capture_output=True, text=True,
+                             timeout=120)
+        why = "page.py: the program refused its options: invalid value '1' for '--squares <N>': "
+        self.assertEqual((run.returncode, run.stdout, run.stderr[:len(why)]), (1, "", why))
 
 
 if __name__ == "__main__":

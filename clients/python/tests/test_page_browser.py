@@ -3,44 +3,17 @@
     python3 -m unittest discover -s clients/python/tests -p test_page_browser.py
 """
 import base64
-import shutil
-import signal
+import re
 import struct
 import subprocess
-import sys
-import tempfile
 import time
 import unittest
 import zlib
-from pathlib import Path
 
-sys.path.insert(0, str(Path(__file__).resolve().parent))
+from page_browser import DROP, WIRE, ActionChains, By, InBrowser, Keys, tests_in_browser
+from places import EXAMPLES, PROGRAM
+from test_page_with import BLINKER, slack
 
-from test_page_with import BLINKER, CLIENTS, EXAMPLES, LIFE, PROGRAM, SETUP, here_or_elsewhere, slack, soup  # noqa: E402
-
-try:
-    import aiohttp  # noqa: F401
-    from selenium import webdriver
-    from selenium.webdriver.chrome.service import Service
-    from selenium.webdriver.common.action_chains import ActionChains
-    from selenium.webdriver.common.by import By
-    from selenium.webdriver.common.keys import Keys
-except ImportError:
-    webdriver = None
-
-BROWSER, DRIVER = shutil.which("chromium"), shutil.which("chromedriver")
-OPTIONS = ("--headless=new", "--no-sandbox", "--disable-gpu", "--disable-dev-shm-usage", "--window-size=1200,860",
-           "--force-device-scale-factor=1", "--no-first-run", "--disable-background-networking")
-WIRE = {0: (32, 32, 40), 1: (80, 160, 255), 2: (255, 255, 255), 3: (255, 160, 0)}
-PIXEL = """
-const pane = app.panes[arguments[0]], at = pane.pixelOf(BigInt(arguments[1]), BigInt(arguments[2]));
-return [...pane.context.getImageData(at.x + at.side / 2, at.y + at.side / 2, 1, 1).data].slice(0, 3).join();
-"""
-DROP = """
-const [name, text] = arguments, data = new DataTransfer();
-data.items.add(new File([text], name));
-document.body.dispatchEvent(new DragEvent("drop", { dataTransfer: data, bubbles: true, cancelable: true }));
-"""
 # The colors of all cells that a picture has in sight, row after row, each at its middle; and where they are.
 CELLS = """
 const pane = app.panes[arguments[0]], { x, y, columns, rows, side } = pane.area(), found = [];
@@ -68,7 +41,7 @@ const drawn = () => new Promise((go) => requestAnimationFrame(() => setTimeout(g
 (async () => {
   for (let it = 0; it < 12; it++) {
     const begun = performance.now();
-    if (it % 3 === 0) await app.mark({ branch: 0, generation: BigInt(150000 + it) });
+    if (it % 3 === 0) await app.edits.mark({ branch: 0, generation: BigInt(150000 + it) });
     else if (it % 3 === 1) app.go({ branch: 0, generation: BigInt(100000 + it) });
     else await app.ask("undo");
     await drawn();
@@ -113,118 +86,13 @@ def frames_of(data):
 
 
 def load_tests(loader, tests, pattern):
-    return here_or_elsewhere(tests, ["aiohttp", "selenium"], __file__)
+    return tests_in_browser(tests, __file__)
 
 
-@unittest.skipUnless(webdriver and BROWSER and DRIVER, f"there is no browser for the page's tests; {SETUP}")
-class BrowserTest(unittest.TestCase):
-    @classmethod
-    def setUpClass(cls):
-        options = webdriver.ChromeOptions()
-        for it in OPTIONS:
-            options.add_argument(it)
-        options.binary_location = BROWSER
-        options.set_capability("goog:loggingPrefs", {"browser": "ALL"})
-        cls.browser = webdriver.Chrome(options=options, service=Service(DRIVER))
-        cls.browser.set_script_timeout(30)
-        cls.addClassCleanup(cls.browser.quit)
-
-    def open(self, *files, options=()):
-        words = [sys.executable, "-B", str(CLIENTS / "page.py"), *map(str, files), "--no-browser", "--desk", PROGRAM,
-                 *options]
-        run = subprocess.Popen(words, stdout=subprocess.PIPE, text=True)
-        self.addCleanup(run.stdout.close)
-        self.addCleanup(run.wait, 20)
-        self.addCleanup(run.send_signal, signal.SIGINT)
-        self.address = run.stdout.readline().strip()
-        self.browser.get(self.address)
-        self.js("sessionStorage.clear()")
-        self.until("window.app && app.state.epoch >= 0 && !app.wantsFit || app?.state.start === ''")
-
-    def tearDown(self):
-        severe = [it for it in self.browser.get_log("browser") if it["level"] == "SEVERE"]
-        self.assertEqual([it for it in severe if "403" not in it["message"] and "WebSocket" not in it["message"]], [])
-
-    def life(self, side, *options):
-        """A start in disorder of so many cells a side."""
-        with tempfile.TemporaryDirectory() as folder:
-            for name, data in (("life.rule", LIFE), ("soup.rle", soup(side))):
-                (Path(folder) / name).write_bytes(data)
-            self.open(Path(folder) / "life.rule", Path(folder) / "soup.rle", options=options)
-
-    def script(self):
-        return self.browser.execute_async_script(
-            "fetch(document.getElementById('save').href).then((it) => it.text()).then(arguments[0])")
-
-    def wire(self):
-        self.open(EXAMPLES / "wire.rule", EXAMPLES / "wire.rle")
-        self.until_known(0, 0)
-
-    def run(self, result=None):
-        """Runs a test, and a second time where it failed: on a busy machine a browser may lose a click."""
-        first = unittest.TestResult()
-        super().run(first)
-        if not first.wasSuccessful():
-            return super().run(result)
-        result.startTest(self)
-        if first.skipped:
-            result.addSkip(self, first.skipped[0][1])
-        else:
-            result.addSuccess(self)
-        result.stopTest(self)
-        return result
-
-    def js(self, words, *given):
-        return self.browser.execute_script(words, *given)
-
-    def comes(self, words, seconds):
-        """Whether something becomes so within a time."""
-        end = time.monotonic() + seconds * slack()
-        while not self.js(f"return Boolean({words})"):
-            if time.monotonic() > end:
-                return False
-            time.sleep(0.03)
-        return True
-
-    def until(self, words, seconds=15):
-        self.assertTrue(self.comes(words, seconds), words)
-
-    def until_known(self, branch, generation, pane=0):
-        self.until(f"app.panes[{pane}].node.dataset.known === `{branch}|{generation}|${{app.state.epoch}}`")
-
-    def find(self, selector):
-        return self.browser.find_element(By.CSS_SELECTOR, selector)
-
-    def press(self, *keys):
-        for it in keys:
-            ActionChains(self.browser).send_keys(it).perform()
-
-    def go(self, branch, generation):
-        self.js(f"app.go({{ branch: {branch}, generation: {generation}n }})")
-        self.until_known(branch, generation)
-
-    def pixel(self, x, y, pane=0):
-        return tuple(map(int, self.js(PIXEL, pane, str(x), str(y)).split(",")))
-
-    def drag(self, selector, by):
-        chain = self.over(selector).click_and_hold()
-        chain.move_by_offset(by // 2, 0).move_by_offset(by - by // 2, 0).release().perform()
-
-    def over(self, selector, x=None):
-        """The pointer over something of the timeline, of which only the whole stays while it is drawn anew."""
-        self.until(f"document.querySelector({selector!r})")
-        at = self.js("""
-            const svg = app.timeline.svg.getBoundingClientRect();
-            const it = document.querySelector(arguments[0]).getBoundingClientRect();
-            const x = it.x + it.width / 2 - svg.x - svg.width / 2, y = it.y + it.height / 2 - svg.y - svg.height / 2;
-            return [x, y, svg.width / 2]""", selector)
-        return ActionChains(self.browser).move_to_element_with_offset(
-            self.find("#timeline svg"), int(at[0] if x is None else x - at[2]), int(at[1]))
-
+class BrowserTest(InBrowser):
     def test_a_known_picture_cell_for_cell(self):
         self.wire()
-        rows = ["".join(it)
-                        for it in ([".1233333.", "3.......3", "3.......3333333333333333", "3.......3", ".3333333."])]
+        rows = [".1233333.", "3.......3", "3.......3333333333333333", "3.......3", ".3333333."]
         for y, row in enumerate(rows):
             for x, sign in enumerate(row):
                 self.assertEqual(self.pixel(x, y), WIRE[0 if sign == "." else int(sign)], (x, y))
@@ -274,11 +142,7 @@ class BrowserTest(unittest.TestCase):
             """
             const it = app.pane.pixelOf(10n, 2n), box = app.pane.canvas.getBoundingClientRect();
             return [it.x + it.side / 2 - box.width / 2, it.y + it.side / 2 - box.height / 2]""")
-        chain = ActionChains(
-    self.browser).move_to_element_with_offset(
-        self.find(".pane canvas"), int(
-            at[0]), int(
-                at[1]))
+        chain = ActionChains(self.browser).move_to_element_with_offset(self.find(".pane canvas"), *map(int, at))
         chain.click_and_hold().move_by_offset(32, 0).release().perform()
         self.until("app.state.interventions.length === 1")
         self.until_known(1, 40)
@@ -306,20 +170,15 @@ class BrowserTest(unittest.TestCase):
                 break
         self.until("app.state.bookmarks.length === 3")
         self.js("app.select('branches', 1)")
-        self.js("app.remove('branches', 1)")
+        self.js("app.edits.remove('branches', 1)")
         self.until("app.state.branches.length === 0 && app.pane.branch === 0 && app.state.interventions.length === 0")
         self.js("app.undo = app.ask('undo')")
         self.until("app.state.branches.length === 1 && app.state.interventions[0].cells === 3")
 
     def test_a_refusal_says_the_line_and_what_helps(self):
         self.wire()
-        self.js(
-    DROP,
-    "bad.rule",
-    (EXAMPLES /
-    "wire.rule").read_text().replace(
-        "1,a,b,c,d,e,f,g,h,2",
-         "1,a,b,c,d,e,f,g,h,7"))
+        rule = (EXAMPLES / "wire.rule").read_text()
+        self.js(DROP, "bad.rule", rule.replace("1,a,b,c,d,e,f,g,h,2", "1,a,b,c,d,e,f,g,h,7"))
         self.until("!document.getElementById('alert').hidden")
         words = self.find("#alert").text
         for it in ("9 StateTooHigh", "1,a,b,c,d,e,f,g,h,7", "bad.rule, line", "raise n_states"):
@@ -359,7 +218,7 @@ class BrowserTest(unittest.TestCase):
         self.browser.switch_to.new_window("tab")
         self.browser.get(self.address)
         self.until("window.app?.state.bookmarks.length === 1")
-        self.js("app.mark({ branch: 0, generation: 3n })")
+        self.js("app.edits.mark({ branch: 0, generation: 3n })")
         self.until("app.state.bookmarks.length === 2")
         self.browser.close()
         self.browser.switch_to.window(first)
@@ -376,7 +235,7 @@ class BrowserTest(unittest.TestCase):
             window.told = arguments[0];
             const make = URL.createObjectURL;
             URL.createObjectURL = (blob) => { window.kept = blob; return make.call(URL, blob); };
-            app.png();""")
+            app.files.png();""")
         self.assertEqual(name, "branch-0-generation-7.png")
         self.assertEqual(size, self.js("return [app.pane.size.w, app.pane.size.h]"))
         self.press("m")
@@ -428,7 +287,7 @@ class BrowserTest(unittest.TestCase):
         self.press("w")
         self.js("app.choosePane(0); app.go({ branch: 0 })")
         self.until_known(0, 24, 0)
-        self.find("#differ").click()
+        self.click(self.find("#differ"))
         colors = self.browser.execute_async_script("import('./difference.js').then((it) => arguments[0](it.KINDS))")
         colors = [None, *(tuple(it["color"]) for it in colors)]
         dim = {state: tuple(round(28 + (it - 28) * 0.26) for it in color) for state, color in WIRE.items()}
@@ -509,12 +368,12 @@ class BrowserTest(unittest.TestCase):
         self.until_known(0, 0)
         self.js("app.go({ generation: 200000n })")
         self.js("document.getElementById('frames').value = 300; app.film.toggle()")
-        self.assertIn("1 to 256 frames", self.find("#status").text)
+        self.assertIn("1 to 256 frames", self.find(".wrong").text)
         self.js("document.getElementById('frames').value = 40")
-        self.find("#film").click()
+        self.click(self.find("#film"))
         self.until("document.getElementById('film').textContent === '0 of 40: cancel'")
         self.until("JSON.parse(app.sent).filter((it) => it[1] > 200000).length === 7")
-        self.find("#film").click()
+        self.click(self.find("#film"))
         self.until("document.getElementById('film').textContent === 'Animation'")
         self.until("!JSON.parse(app.sent).some((it) => it[1] > 200000)")
         self.press("a")
@@ -529,8 +388,8 @@ class BrowserTest(unittest.TestCase):
         self.until_known(0, 0)
         self.press("m")
         self.until("app.state.bookmarks[0]?.isCurrent")
-        self.js("app.mark({ branch: 0, generation: 200000n })")
-        self.until("document.querySelector('.computing .bookmark.pending') && app.isComputing")
+        self.js("app.edits.mark({ branch: 0, generation: 200000n })")
+        self.until("document.querySelector('.computing .bookmark.pending') && app.status.isComputing")
         moving = "return getComputedStyle(document.querySelector(arguments[0])).animationName"
         for it in (".bookmark.pending path", ".lane.due"):
             self.assertEqual(self.js(moving, it), "computing")
@@ -551,7 +410,7 @@ class BrowserTest(unittest.TestCase):
 
     def test_a_cause_is_told_in_words(self):
         self.life(200, "--squares", "1024")
-        self.js("app.mark({ branch: 0, generation: 1000n })")
+        self.js("app.edits.mark({ branch: 0, generation: 1000n })")
         self.until("app.state.cause && document.querySelector('.stopped .bookmark.pending')")
         words = ("given up for now, 71 NoRoom. It means: a step from one mark to the next needs more squares than a "
                  "worker may keep. What to do: more --squares")
@@ -594,6 +453,23 @@ class BrowserTest(unittest.TestCase):
             !(it.getAttribute("aria-label") || it.textContent.trim() || it.labels?.length || it.title))
             .map((it) => it.outerHTML)""")
         self.assertEqual(unnamed, [])
+
+    def test_each_key_that_a_button_names_is_in_the_list_of_keys(self):
+        self.wire()
+        self.js("for (const it of document.querySelectorAll('details')) it.open = true; "
+                "app.selection.set({ x: 0n, y: 0n }, { x: 1n, y: 1n })")
+        named = ":is(button, a, summary)[title]"
+        titles = self.js("return [...document.querySelectorAll(arguments[0])].map((it) => it.title)", named)
+        named = [re.search(r"\(([^()]*)\)$", it) for it in titles]
+        self.press("?")
+        self.until("document.getElementById('keys').open")
+        listed = self.js("return [...document.querySelectorAll('#keys kbd')].map((it) => it.textContent)")
+        words = [word for it in listed for word in it.split()]
+        keys = [key for it in named if it for key in it[1].split(":")[0].split(",")[0].split()]
+        self.assertGreater(len(keys), 30)
+        self.assertEqual([it for it in keys if it not in words and not it.isdigit()], [])
+        self.press(Keys.ESCAPE)
+        self.until("!document.getElementById('keys').open")
 
 
 if __name__ == "__main__":

@@ -1,20 +1,13 @@
 """What the tests of the page share: files, and which Python can run them. It has no tests of its own."""
 import os
 import subprocess
-import sys
 import unittest
 from importlib import util
 from pathlib import Path
 
-sys.dont_write_bytecode = True
-ROOT = Path(__file__).resolve().parents[3]
-CLIENTS, EXAMPLES = ROOT / "clients/python", ROOT / "examples"
-sys.path.insert(0, str(CLIENTS))
+from desk.rules.lifelike import rule_text
+from places import WITH_PACKAGE
 
-from desk import BUILT  # noqa: E402
-from lifelike import rule_text  # noqa: E402
-
-PROGRAM = os.environ.get("DESK") or BUILT
 DEBIAN = "/usr/bin/python3"
 SETUP = "clients/python/tests/setup.sh installs it"
 LIFE = rule_text("B3/S23").encode()
@@ -47,7 +40,7 @@ def here_or_elsewhere(tests, modules, path):
             if not os.path.exists(DEBIAN) or subprocess.run([DEBIAN, "-c", words], capture_output=True).returncode:
                 self.skipTest(f"there is no {' or no '.join(modules)}; {SETUP}")
             run = subprocess.run([DEBIAN, "-B", "-m", "unittest", Path(path).stem], cwd=Path(path).parent,
-                                 capture_output=True, text=True, timeout=400)
+                                 env=WITH_PACKAGE, capture_output=True, text=True, timeout=400)
             self.assertEqual(run.returncode, 0, run.stderr)
             if "skipped=" in run.stderr:
                 self.skipTest(run.stderr[-400:])

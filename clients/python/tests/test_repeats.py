@@ -1,18 +1,12 @@
-"""Tests of interventions that repeat by the client, against the built program. They run with the other tests, or alone by
+"""Tests of interventions that repeat, against the built program. They run with the other tests, or alone by
 
     python3 -m unittest discover -s clients/python/tests -p test_repeats.py
 """
-import os
-import sys
 import unittest
-from pathlib import Path
 
-sys.dont_write_bytecode = True
-sys.path.insert(0, str(Path(__file__).resolve().parents[1]))
+from desk import Desk, Refused, Settling, Window
+from places import PROGRAM
 
-from desk import BUILT, Desk, Refused, Settling, Window  # noqa: E402
-
-PROGRAM = os.environ.get("DESK") or BUILT
 CELL = Window(0, 0, 1, 1)
 
 

@@ -7,7 +7,6 @@ import os
 import random
 import re
 import subprocess
-import sys
 import tempfile
 import threading
 import unittest
@@ -15,17 +14,14 @@ import warnings
 from pathlib import Path
 from unittest import mock
 
-sys.dont_write_bytecode = True
-CLIENTS = Path(__file__).resolve().parents[1]
-sys.path.insert(0, str(CLIENTS))
+from desk import Desk, Malformed, Refused, RuleNameWarning, Trouble, Window
+from desk.accepted import Accepted, Edit, needed
+from desk.transport import Command
+from places import EXAMPLES, PROGRAM
 
-from accepted import Accepted, Edit, needed  # noqa: E402
-from desk import BUILT, Desk, Refused, RuleNameWarning, Trouble, Window  # noqa: E402
-
-PROGRAM = os.environ.get("DESK") or BUILT
-EXAMPLES = CLIENTS.parents[1] / "examples"
 # Of 2, 4 and 7 states, so that some of them can't follow.
 RULES = ("B3/S23", "B2/S345/C4", "B2/S345/C7", "B36/S125", "B3/S23")
+STILL = b"@RULE still\n@TABLE\nn_states:2\nneighborhood:vonNeumann\nsymmetries:none\n"
 VIEWS = ("counts", "rle", "mc", Window(-4, -4, 9, 8))
 
 
@@ -94,9 +90,8 @@ class ScriptTest(WithFolder):
     def test_random_sessions_are_made_anew(self):
         refused = left_out = 0
         for seed in range(60):
-            with warnings.catch_warnings(), Desk(PROGRAM) as desk, mock.patch("accepted.MANY", seed * 50):
+            with warnings.catch_warnings(), mock.patch("desk.accepted.MANY", seed * 50), Desk(PROGRAM) as desk:
                 warnings.simplefilter("ignore", RuleNameWarning)
-                desk._accepted = Accepted()
                 session = Session(desk, random.Random(seed), self.folder)
                 for _ in range(random.Random(seed).randint(5, 80)):
                     session.edit()
@@ -123,34 +118,36 @@ class ScriptTest(WithFolder):
             lists = "\n".join(told).partition("settled\n")[2]
             lines = sum(map(len, (there.branches, there.interventions, there.bookmarks))) + 1
             self.assertEqual(lists.count("\n"), lines, seed)
-            asks = lambda it: it.branch(0, 0), lambda it: it.at(9, [(0, 0, 1)]), lambda it: it.mark(9, "counts")
-            for ask in asks:
+            for ask in (lambda it: it.branch(0, 0), lambda it: it.at(9, [(0, 0, 1)]), lambda it: it.mark(9, "counts")):
                 self.assertEqual(ask(fresh), ask(desk), seed)
             self.assertEqual(fresh.show(fresh.mark(9, "rle")), desk.show(desk.mark(9, "rle")), seed)
 
     def test_what_is_needless_is_left_out(self):
-        rule, start, other = Edit("rule", b"R\n"), Edit("start rle", b"S\n"), Edit("start mc", b"T\n")
-        at, every = Edit("on 1 at 5 set 1 1 3", None, 1), Edit("every 1 2 9 set 1 1 4", None, 2)
-        mark = Edit("mark 5 rle")
-        again, anew = Edit("change 1 6 set 2 2 5"), Edit("change 1 every 2 3 9 set 3 3 6")
-        one, two = Edit("set 1 1 1"), Edit("set 0 0 0")
-        move, there, else_ = Edit("move 1 5"), Edit("move 1 7"), Edit("move 2 7")
-        bare = at._replace(command="on 1 at 5 set 0 0 0")
+        def edit(line, text=None, id_=0):
+            return Edit(Command(line, text), id_)
+
+        rule, start, other = edit("rule", b"R\n"), edit("start rle", b"S\n"), edit("start mc", b"T\n")
+        at, every = edit("on 1 at 5 set 1 1 3", None, 1), edit("every 1 2 9 set 1 1 4", None, 2)
+        mark = edit("mark 5 rle")
+        again, anew = edit("change 1 6 set 2 2 5"), edit("change 1 every 2 3 9 set 3 3 6")
+        one, two = edit("set 1 1 1"), edit("set 0 0 0")
+        move, there, else_ = edit("move 1 5"), edit("move 1 7"), edit("move 2 7")
+        bare = edit("on 1 at 5 set 0 0 0", None, 1)
         cases = [
             ([one, start, two, one, mark, other, one], [mark, other, one]),
             ([rule, start, rule, other], [rule, other]),
             ([rule, start, rule], [rule, start, rule]),
             ([rule, two, mark, rule, rule], [two, mark, rule]),
             ([rule, at, rule], [rule, at, rule]),
-            ([rule, at, Edit("drop 1"), rule], [bare, Edit("drop 1"), rule]),
-            ([at, every, again, anew, Edit("drop 1")],
-             [bare, every, Edit("change 1 every 2 3 9 set 0 0 0"), Edit("drop 1")]),
+            ([rule, at, edit("drop 1"), rule], [bare, edit("drop 1"), rule]),
+            ([at, every, again, anew, edit("drop 1")],
+             [bare, every, edit("change 1 every 2 3 9 set 0 0 0"), edit("drop 1")]),
             ([at, again, anew, again], [at, again]),
             ([at, again, mark, anew], [at, again, mark, anew]),
             ([move, there, else_, move, there], [there, else_, there]),
             ([again, rule, anew], [again, rule, anew]),
-            ([mark, Edit("unmark 1"), Edit("branch 0 1"), Edit("unbranch 1")],
-             [mark, Edit("unmark 1"), Edit("branch 0 1"), Edit("unbranch 1")]),
+            ([mark, edit("unmark 1"), edit("branch 0 1"), edit("unbranch 1")],
+             [mark, edit("unmark 1"), edit("branch 0 1"), edit("unbranch 1")]),
         ]
         for edits, wanted in cases:
             self.assertEqual(needed(edits), wanted, edits)
@@ -159,10 +156,10 @@ class ScriptTest(WithFolder):
     def test_a_long_session_of_many_starts_stays_small(self):
         accepted, text = Accepted(), b"o" * 70 + b"!\n"
         for number in range(30000):
-            accepted.add("rule", text, ["ok", "1"])
-            accepted.add("start rle", text, ["ok", "2", "gen", "0"])
-            accepted.add("at 5 set" + " 1 1 1" * 100, None, ["ok", "3", "intervention", str(number + 1)])
-            accepted.add(f"drop {number + 1}", None, ["ok", "4"])
+            accepted.add(Command("rule", text), ["ok", "1"])
+            accepted.add(Command("start rle", text), ["ok", "2", "gen", "0"])
+            accepted.add(Command("at 5 set" + " 1 1 1" * 100), ["ok", "3", "intervention", str(number + 1)])
+            accepted.add(Command(f"drop {number + 1}"), ["ok", "4"])
         self.assertLess(accepted._size, 4 << 20)
         self.assertLess(len(accepted.script()), 2 << 20)
 
@@ -181,17 +178,18 @@ class ScriptTest(WithFolder):
         self.assertEqual(desk.revision, 1)
 
     def test_it_is_whole_while_others_edit(self):
-        with Desk(PROGRAM) as desk, mock.patch("accepted.MANY", 10):
-            desk._accepted = Accepted()
+        with mock.patch("desk.accepted.MANY", 10), Desk(PROGRAM) as desk:
             path = self.folder / "dot.rle"
             path.write_text("x = 1, y = 1\no!\n", encoding="utf-8")
+            wanted = b"rule\n%send\nstart rle\nx = 1, y = 1\no!\nend\n" % STILL
             threads = [threading.Thread(target=lambda: [desk.start(str(path)) for _ in range(100)]) for _ in range(3)]
+            desk.rule_text(STILL)
             desk.start(str(path))
             for thread in threads:
                 thread.start()
             while any(thread.is_alive() for thread in threads):
-                self.assertEqual(desk.script(), b"start rle\nx = 1, y = 1\no!\nend\n")
-            self.assertEqual(desk.revision, 301)
+                self.assertEqual(desk.script(), wanted)
+            self.assertEqual(desk.revision, 302)
 
 
 class OpeningTest(WithFolder):
@@ -209,7 +207,7 @@ class OpeningTest(WithFolder):
 
     def test_blanks_ends_and_packed_files(self):
         rule = "@RULE X\r\n@TABLE\n n_states:2\nneighborhood:oneDimensional\nsymmetries:none\n0,1,0,1\n1,1,1,0\n"
-        text = f"\n # no\n#\r\n rule\t\r\n{rule} end\r\n\n  set  0   0 1 \r\nwork\n"
+        text = f"\n # no\n#\r\n rule\t\r\n{rule} end\r\n\n  set  0   0 1 \r\nwork\nhelp\n"
         text += "  mark  007  window -0 0  2 1\nquit\nmark\n"
         for script in (text.encode(), gzip.compress(text.encode())):
             desk = self.opened(self.script(script))
@@ -250,7 +248,7 @@ class OpeningTest(WithFolder):
         with self.assertWarnsRegex(RuleNameWarning, "names the rule Y, and the rule is X") as caught:
             self.addCleanup(Desk.open(path, PROGRAM, squares=64, workers=1, facts=1).close)
         self.assertEqual(caught.filename, __file__)
-        with self.assertRaisesRegex(Trouble, "status 2"):
+        with self.assertRaisesRegex(Malformed, "refused its options: invalid value '9'"):
             Desk.open(path, PROGRAM, workers=9)
 
     def test_saving_leaves_the_old_file_where_it_fails(self):

@@ -15,19 +15,12 @@ import unittest
 from concurrent.futures import ProcessPoolExecutor, ThreadPoolExecutor
 from pathlib import Path
 
-sys.dont_write_bytecode = True
-CLIENTS = Path(__file__).resolve().parents[1]
-sys.path.insert(0, str(CLIENTS))
+from desk import Desk, Malformed, Outcome, Show, Trouble, Window, sweep
+from desk.sweep import programs
+from desk.sweep.results_file import Results
+from desk.sweep.soups import Soup, rle
+from places import CLIENTS, EXAMPLES, PROGRAM, WITH_PACKAGE
 
-import desk as desk_module  # noqa: E402
-import programs  # noqa: E402
-from desk import BUILT, Desk, Malformed, Trouble, Window  # noqa: E402
-from results import Results  # noqa: E402
-from soups import Soup, rle  # noqa: E402
-from sweep import Outcome, Show, sweep  # noqa: E402
-
-PROGRAM = os.environ.get("DESK") or BUILT
-EXAMPLES = CLIENTS.parents[1] / "examples"
 WIRE = str(EXAMPLES / "wire.rule")
 CLUSTER = """\
 import sys
@@ -132,7 +125,6 @@ class SweepTest(unittest.TestCase):
         cases = [150, 3, 99, 0, 42, 7] * 5
         found = self.run_sweep(cut, iter(cases), ordered=True, jobs=3)
         self.assertEqual([it.case for it in found], cases)
-        self.assertIs(desk_module.sweep, sweep)
         self.assertEqual(self.run_sweep(cut, []), [])
 
     def test_a_case_that_fails_is_an_outcome(self):
@@ -168,7 +160,7 @@ class SweepTest(unittest.TestCase):
             self.run_sweep(odd, ["well", "bug", "well"])
         with self.assertRaisesRegex(Trouble, "no program /nowhere"):
             list(sweep(odd, ["well"], program="/nowhere"))
-        with self.assertRaisesRegex(Trouble, "status 2: error: invalid value '1'"):
+        with self.assertRaisesRegex(Trouble, "the program refused its options: invalid value '1'"):
             list(sweep(odd, ["well"], program=PROGRAM, squares=1))
         with self.assertRaisesRegex(Malformed, "jobs is 0"):
             self.run_sweep(odd, ["well"], jobs=0)
@@ -323,9 +315,9 @@ class SweepProgramTest(unittest.TestCase):
     def cluster(self):
         if not DASK_PYTHON:
             self.skipTest("neither this Python nor /usr/bin/python3 has Dask (Debian: python3-distributed)")
-        pipe, places = subprocess.PIPE, {**os.environ, "PYTHONPATH": str(CLIENTS)}
+        pipe = subprocess.PIPE
         run = subprocess.Popen([DASK_PYTHON, "-c", CLUSTER], stdin=pipe, stdout=pipe, stderr=subprocess.DEVNULL,
-                               env=places, cwd=self.folder, text=True)
+                               env=WITH_PACKAGE, cwd=self.folder, text=True)
         self.addCleanup(run.communicate, timeout=60)
         address, *workers = run.stdout.readline().split()
         return address, list(map(int, workers))
@@ -403,16 +395,28 @@ class SweepProgramTest(unittest.TestCase):
         self.assertEqual(run.returncode, 0, run.stderr)
         self.assertEqual([it[9] for it in self.rows()[1:]], [""] * 4)
 
+    def test_rows_on_standard_output(self):
+        words = ("--rule", "B3/S23", "--soup", 5, "--size", 16, "--to", "2^5", "--jobs", 1)
+        self.assertEqual(self.called(*words).returncode, 0)
+        run = subprocess.run([*self.words(*words), "--out", "-"], cwd=self.folder, capture_output=True, text=True,
+                             timeout=100)
+        self.assertEqual(run.returncode, 0, run.stderr)
+        rows = list(csv.reader(run.stdout.splitlines()))
+        self.assertEqual((rows[0], sorted(rows[1:])), (self.rows()[0], sorted(self.rows()[1:])))
+        self.assertIn("B3/S23", run.stderr)
+        self.assertEqual(os.listdir(self.folder), ["found.csv"])
+
     def test_words_that_are_wrong(self):
         cases = [
-            (("--rule", "no*.rule"), 1, "sweep.py: no*.rule: there is no such file, and it names no Life-like rule"),
+            (("--rule", "no*.rule"), 1, "sweep.py: no*.rule: there is no such file"),
             (("--rule", "B3/S23", "--size", "0"), 2, "take a side of 1 to 4096, as 64"),
             (("--rule", "B3/S23", "--soup", "9-3"), 2, "take a number, as 200, or the first and the last seed"),
             (("--rule", "B3/S23", "--show", "counts,colour"), 2, "take words of counts, period, box, curve"),
             (("--rule", "B3/S23", "--density", "2"), 2, "take a number from 0 to 1"),
             (("--rule", "B3/S23", "--states", "0"), 2, "take `all`, or states"),
             (("--rule", "B3/S23", "--keep", "x"), 2, "--keep needs `period`"),
-            (("--rule", "B3/S23", "--squares", "1"), 1, "the program ended with status 2: error: invalid value '1'"),
+            (("--rule", "B3/S23", "--to", "2^61"), 2, "take a generation from 0 to 2^60, as 1000"),
+            (("--rule", "B3/S23", "--squares", "1"), 1, "the program refused its options: invalid value '1'"),
         ]
         for words, status, told in cases:
             given = {"--soup": "1", "--to": "5", **dict(zip(words[::2], words[1::2]))}

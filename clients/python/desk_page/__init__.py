@@ -1,1 +1,0 @@
-"""The desk's page: an experiment in a browser. `page.py` beside this folder starts it."""

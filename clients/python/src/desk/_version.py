@@ -1,0 +1,3 @@
+"""The version, which is said here alone."""
+
+VERSION = "1.0.0"

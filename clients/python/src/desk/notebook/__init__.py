@@ -1,0 +1,1 @@
+"""What a notebook shows by itself: pictures, differences, curves and tables; and how far a settling is."""
