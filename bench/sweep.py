@@ -23,11 +23,10 @@ import time
 from measuring import HERE, LIFE, words_of
 
 CLIENTS = f"{HERE}/../clients/python"
-sys.path.insert(0, CLIENTS)
+sys.path.insert(0, f"{CLIENTS}/src")
 
-from desk import Desk  # noqa: E402
-from soups import Soup, rle  # noqa: E402
-from sweep import Show, sweep  # noqa: E402
+from desk import Desk, Show, Soup, sweep  # noqa: E402
+from desk.sweep.soups import rle  # noqa: E402
 
 SOUPS = [(8, 100), (16, 200), (32, 200), (32, 1000), (64, 1000)]
 DENSITY = 0.3
