@@ -12,7 +12,7 @@ use std::alloc::Global;
 
 /// A result.
 #[derive(Clone, Copy, Debug)]
-pub struct Found<'a> {
+pub struct CountedResult<'a> {
     /// The square.
     pub square: Square<'a>,
     /// How many squares of 4 by 4 cells the table has.
@@ -30,7 +30,7 @@ pub fn result<'a, Q: Ask, S: Stop>(
     root: Square<'a>,
     generations: u64,
     stop: &mut S,
-) -> Result<Found<'a>, ResultFault>
+) -> Result<CountedResult<'a>, ResultFault>
     requires { CanBeAsked (Q.state_count rule.old) table.old root }
     ensures grows { GrowsOnWay (Q.meaning rule.old) generations table.old root.entry table.new }
     ensures rule { KeepsRule Q.meaning Q.state_count rule.old rule.new }
@@ -46,7 +46,7 @@ pub fn result<'a, Q: Ask, S: Stop>(
     memo.turn_to(generations);
     let number = forward(table, &mut memo, rule, stop, k, generations, root.number())?;
     let counts = count_squares(table);
-    Ok(Found {
+    Ok(CountedResult {
         square: table.square(k + 1, number)?,
         fours: counts.fours,
         base: counts.base,

@@ -13,5 +13,5 @@ mod found;
 
 pub use at_once::{evolve, evolve_by};
 pub use evolved::{Evolved, Report};
-pub use found::{Found, result};
+pub use found::{CountedResult, result};
 pub use hash_engine::Asking;

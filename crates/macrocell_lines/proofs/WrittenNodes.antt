@@ -5,7 +5,7 @@ use Rattle.macrocell_lines.proofs.Names.{nat_tests, node_line, node_of, numbers-
 use Rattle.std.proofs.lemmas.Option.{slice_get_within}
 use Rattle.macrocell_lines.specs.declared.numbers.FiveNumbers.{FiveNumbers}
 use Rattle.macrocell_lines.specs.Headings.{Heading}
-use Rattle.macrocell_lines.specs.Quadrants.{cells_of, child_of, square_of, state_of}
+use Rattle.macrocell_lines.specs.Quadrants.{leaf_of, child_of, square_of, state_of}
 use Rattle.macrocell_lines.proofs.NumberLines.{five-written}
 use Rattle.macrocell_lines.proofs.WrittenBitmaps.{bitmap-taken, rows-line}
 
@@ -36,13 +36,13 @@ state_of-below n h = let below : nat_lt n 256 ≡ true = grind (arith, nat_tests
 room-left : (nodes : List Node) → length nodes < 16777216 → check_room nodes ≡ Ok tt
 room-left nodes h = let below : nat_lt (length nodes) 16777216 ≡ true = grind (arith, nat_tests) in rw below refl
 
-cells_of-states : (level nw ne sw se : ℕ) → AreStates nw ne sw se → cells_of (record { level = level; nw = nw; ne = ne; sw = sw; se = se }) ≡ Some (Cells nw ne sw se)
-cells_of-states level nw ne sw se h =
+leaf_of-states : (level nw ne sw se : ℕ) → AreStates nw ne sw se → leaf_of (record { level = level; nw = nw; ne = ne; sw = sw; se = se }) ≡ Some (Cells nw ne sw se)
+leaf_of-states level nw ne sw se h =
     rw (state_of-below nw h.nw_state) (rw (state_of-below ne h.ne_state) (rw (state_of-below sw h.sw_state) (rw (state_of-below se h.se_state) refl)))
 
 quartered-cells : (number : ℕ) (nodes : List Node) (nw ne sw se : ℕ) → AreStates nw ne sw se → length nodes < 16777216 → quartered number nodes (record { level = 1; nw = nw; ne = ne; sw = sw; se = se }) ≡ Ok (Cells nw ne sw se)
 quartered-cells number nodes nw ne sw se h room =
-    rw (cells_of-states 1 nw ne sw se h) (rw (room-left nodes room) refl)
+    rw (leaf_of-states 1 nw ne sw se h) (rw (room-left nodes room) refl)
 
 child_of-child : (nodes : List Node) (level n : ℕ) → IsTrue (is_child nodes level n) → child_of nodes level n ≡ Some n
 child_of-child nodes level n h = ap (λ v. cond v (Some n) None) h

@@ -9,7 +9,7 @@ use Rattle.macrocell_lines.specs.declared.node.Node.TheVariants.{Bitmap}
 use Rattle.macrocell_lines.specs.declared.numbers.FiveNumbers.{FiveNumbers}
 use Rattle.macrocell_lines.specs.Bitmaps.{bitmap_of}
 use Rattle.macrocell_lines.specs.Pieces.{five_numbers}
-use Rattle.macrocell_lines.specs.Quadrants.{cells_of, square_of}
+use Rattle.macrocell_lines.specs.Quadrants.{leaf_of, square_of}
 
 -- there is room for one more node
 abbrev pub check_room : List Node → Result (Unit {0}) McFault
@@ -21,7 +21,7 @@ abbrev pub quartered : ℕ → List Node → FiveNumbers → Result Node McFault
 quartered line nodes said =
     if said.level == 0 then Err (BadRow line) else
     (if said.level == 1
-    then (ok_or (cells_of said) (BadRow line) >>= λ cells. check_room nodes >>= λ _. Ok cells)
+    then (ok_or (leaf_of said) (BadRow line) >>= λ cells. check_room nodes >>= λ _. Ok cells)
     else (if nat_le said.level 62
     then (check_room nodes >>= λ _. ok_or (square_of nodes said.level said) (BadChild line))
     else Err TooDeep))

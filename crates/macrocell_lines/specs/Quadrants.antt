@@ -11,8 +11,8 @@ abbrev pub state_of : ℕ → Option ℕ
 state_of n = if nat_lt n 256 then Some n else None
 
 -- the square of level 1 whose quadrants are these states
-abbrev pub cells_of : FiveNumbers → Option Node
-cells_of said = do
+abbrev pub leaf_of : FiveNumbers → Option Node
+leaf_of said = do
   nw ← state_of said.nw
   ne ← state_of said.ne
   sw ← state_of said.sw

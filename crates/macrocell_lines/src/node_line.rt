@@ -7,7 +7,7 @@ use crate::bitmap::read_bitmap;
 use crate::fault::McFault;
 use crate::node::Node;
 use crate::numbers::{FiveNumbers, five_numbers};
-use crate::quadrants::{cells_of, square_of};
+use crate::quadrants::{leaf_of, square_of};
 
 /// The most nodes that a file may have.
 const MOST_NODES: usize = 16_777_216;
@@ -50,7 +50,7 @@ fn quartered(line: u64, nodes: &[Node], said: FiveNumbers) -> Result<Node, McFau
     match said.level {
         0 => Err(McFault::BadRow(line)),
         1 => {
-            let cells = cells_of(said).ok_or(McFault::BadRow(line))?;
+            let cells = leaf_of(said).ok_or(McFault::BadRow(line))?;
             check_room(nodes)?;
             Ok(cells)
         }

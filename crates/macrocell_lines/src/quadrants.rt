@@ -2,14 +2,14 @@
 ghost use Rattle.std.specs.Prelude.{◌≡◌, ◌≤◌, List, length, IfSome, IsTrue};
 ghost use Rattle.macrocell_lines.specs.declared.node.Node.{Node};
 ghost use Rattle.macrocell_lines.specs.Nodes.{Follows, is_child};
-ghost use Rattle.macrocell_lines.specs.Quadrants.{cells_of, child_of, square_of, state_of};
+ghost use Rattle.macrocell_lines.specs.Quadrants.{leaf_of, child_of, square_of, state_of};
 
 use crate::node::Node;
 use crate::numbers::FiveNumbers;
 
 /// The square of level 1 whose quadrants are these states.
-pub(crate) fn cells_of(said: FiveNumbers) -> Option<Node>
-    ensures cells { result ≡ cells_of said }
+pub(crate) fn leaf_of(said: FiveNumbers) -> Option<Node>
+    ensures cells { result ≡ leaf_of said }
     ensures follows { IfSome result (λ node. (nodes : List Node) → Follows nodes node) }
 {
     Some(Node::Cells {

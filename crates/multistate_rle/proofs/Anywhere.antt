@@ -1,6 +1,6 @@
 -- The faults of a body, wherever its pattern lies.
 use Rattle.multistate_rle.proofs.Names.{Bool, Cell, CellOutOfRange, Digit, End, Err, HasNoFaultAnywhere, IsFaultAnywhere, IsOk, List, NoMemory, Ok, Origin, Result, RleFault, RowEnd, Run, Strip, Symbol, TooManyLive, Unknown, World, [], ap}
-use Rattle.multistate_rle.proofs.Names.{arith, blank, cells_of, cond, drawn_by, false, flat_map, inl, inr, lay, lies_inside, list_all, live_count, nat_lt, onto, refl, runs_from, strips_from, sym, true, unplaced, world_of, ℕ, ◌>>=◌, ◌∙◌}
+use Rattle.multistate_rle.proofs.Names.{arith, blank, cells_of_strip, cond, drawn_by, false, flat_map, inl, inr, lay, lies_inside, list_all, live_count, nat_lt, onto, refl, runs_from, strips_from, sym, true, unplaced, world_of, ℕ, ◌>>=◌, ◌∙◌}
 use Rattle.multistate_rle.proofs.Names.{◌∷◌, ◌≡◌, ◌≢◌, ◌⊎◌}
 
 -- a fault in which no place has a part
@@ -42,7 +42,7 @@ drawn-told ss = by (runs_from 0 ss) (runs-read 0 ss)
     by (Err e) h = inl (e, h, λ origin. refl)
     by (Ok runs) h =
         let strips : List Strip = strips_from 0 0 runs in
-        outcome-told (nat_lt 16777216 (live_count strips)) (λ origin. list_all (lies_inside origin) strips) (λ origin. lay (flat_map (cells_of origin) strips) blank)
+        outcome-told (nat_lt 16777216 (live_count strips)) (λ origin. list_all (lies_inside origin) strips) (λ origin. lay (flat_map (cells_of_strip origin) strips) blank)
 
 -- what the fault at one place, if there is one, tells of the body
 pub record IsFault (e : RleFault) (ss : List Symbol) : Type 0 where

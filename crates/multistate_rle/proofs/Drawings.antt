@@ -1,6 +1,6 @@
 -- A drawing of the runs that were read: at its end it tells what their strips tell.
 use Rattle.multistate_rle.proofs.Names.{Cell, Cells, Digit, Drawn, Err, Gives, IsLike, IsOk, List, NoMemory, Ok, Origin, Result, RleFault, RowEnd, RowEnds, Run, Strip, Symbol, WantsAlone, World, [], after_cells, after_rows, and_parts, ap}
-use Rattle.multistate_rle.proofs.Names.{append-nil, append_assoc, ap₂, arith, capped, cells_of, cond, cond-true, drawn_by, flat_map, flat_map_more, is_in_range, lies_inside, list_all, live_count, max, nat_le, nat_tests, onto, pos, refl}
+use Rattle.multistate_rle.proofs.Names.{append-nil, append_assoc, ap₂, arith, capped, cells_of_strip, cond, cond-true, drawn_by, flat_map, flat_map_more, is_in_range, lies_inside, list_all, live_count, max, nat_le, nat_tests, onto, pos, refl}
 use Rattle.multistate_rle.proofs.Names.{runs_from, strip_at, strips_from, sum_by_push, sym, tests, true, undrawn, with_strip, world_drawn, world_of, ℕ, ◌&&◌, ◌*◌, ◌++◌, ◌+ℤ◌, ◌+◌, ◌==◌, ◌>>=◌, ◌∙◌, ◌∷◌, ◌≡◌, ◌≤◌}
 use Rattle.std.proofs.lemmas.List.Folds.{list_all-append}
 use Rattle.std.proofs.Math.Bool.{and-true}
@@ -19,7 +19,7 @@ pub record Follows (origin : Origin) (d : Drawn) (front : Front) : Type 0 where
   pub column : d.column ≡ capped front.column
   pub live : d.live ≡ capped (live_count front.strips)
   pub inside : d.is_inside ≡ list_all (lies_inside origin) front.strips
-  pub cells : d.is_whole ≡ true → live_count front.strips ≤ 16777216 → list_all (lies_inside origin) front.strips ≡ true → d.cells ≡ flat_map (cells_of origin) front.strips
+  pub cells : d.is_whole ≡ true → live_count front.strips ≤ 16777216 → list_all (lies_inside origin) front.strips ≡ true → d.cells ≡ flat_map (cells_of_strip origin) front.strips
 
 -- so many cells of a state, from there on
 abbrev strip_from : Front → ℕ → ℕ → Strip
@@ -64,8 +64,8 @@ follows-strip {origin} {d} {front} m n s placed some h =
           let k : n ≡ m = omega arith in
           let fits : nat_le (capped (d.live + n)) 16777216 ≡ true = grind (arith, tests) in
           cond-true _ _ _ (λ i. whole i && (fits i && (inside ∙ all) i))
-          ∙ ap₂ (λ xs ys. xs ++ ys) (h.cells whole (omega arith) parts.0) (λ i. cells_of (h.begun i) (record { row = r i; column = c i; count = k i; state = s }))
-          ∙ flat_map_more (cells_of origin) [] strips strip;
+          ∙ ap₂ (λ xs ys. xs ++ ys) (h.cells whole (omega arith) parts.0) (λ i. cells_of_strip (h.begun i) (record { row = r i; column = c i; count = k i; state = s }))
+          ∙ flat_map_more (cells_of_strip origin) [] strips strip;
     }
 
 -- one more run of cells

@@ -8,7 +8,7 @@ pub use Rattle.multistate_rle.specs.Drawing.{Drawn, IsLike, WantsAlone, after_ce
 pub use Rattle.multistate_rle.specs.Frame.{box_of, box_with, frame_of, grown}
 pub use Rattle.multistate_rle.specs.Head.{head_from, is_placed}
 pub use Rattle.multistate_rle.specs.Header.{name_after_width, rule_name, size_in, value_in}
-pub use Rattle.multistate_rle.specs.Pattern.{HasNoFaultAnywhere, IsFaultAnywhere, Run, Strip, cell_at, cells_of, drawn_by, is_in_range, lies_inside, live_count, onto, pattern_of, runs_from, strips_from, unplaced, world_of}
+pub use Rattle.multistate_rle.specs.Pattern.{HasNoFaultAnywhere, IsFaultAnywhere, Run, Strip, cell_at, cells_of_strip, drawn_by, is_in_range, lies_inside, live_count, onto, pattern_of, runs_from, strips_from, unplaced, world_of}
 pub use Rattle.multistate_rle.specs.Pattern.Run.{Cells, RowEnds}
 pub use Rattle.multistate_rle.specs.PatternText.{framed_text, packed}
 pub use Rattle.multistate_rle.specs.Symbols.{is_passed, is_prefix, plain_symbol, prefixed_state, prefixed_symbol, solid_from, symbols}

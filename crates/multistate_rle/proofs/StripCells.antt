@@ -1,5 +1,5 @@
 -- The strips that tokens draw, as cells: those that the tokens were made of.
-use Rattle.multistate_rle.proofs.Names.{All-from_recursion, AllByRecursion, CellSet, IsInside, List, Origin, Place, Strip, Token, [], ap, ap₂, arith, behind, cell_at, cells_of, differs, distance, flat_map, ints, is_in_range, joined, length}
+use Rattle.multistate_rle.proofs.Names.{All-from_recursion, AllByRecursion, CellSet, IsInside, List, Origin, Place, Strip, Token, [], ap, ap₂, arith, behind, cell_at, cells_of_strip, differs, distance, flat_map, ints, is_in_range, joined, length}
 use Rattle.multistate_rle.proofs.Names.{length-append, lies_inside, list_all, live_count, map, nat_tests, neg_ℤ, pos, range_with_len, refl, strips_from, subst, suc, sum_by-cons, tokens, true, way, zeros, ℕ, ℤ, ⊎_elim, ◌++◌, ◌+ℤ◌, ◌+◌, ◌-◌}
 use Rattle.multistate_rle.proofs.Names.{◌<ℤ◌, ◌<◌, ◌^◌, ◌∙◌, ◌∷◌, ◌≡◌, ◌≤ℤ◌, ◌⊎◌}
 use Rattle.std.proofs.lemmas.List.FromFn.{fill_by_all, get_or-map-range_with_len, length-map-range_with_len}
@@ -14,17 +14,17 @@ set_of e = record { x = e.0.1; y = e.0.0; state = e.1 }
 
 -- the cells that tokens draw, from this row and column on
 abbrev pub drawn : Origin → ℕ → ℕ → List Token → List CellSet
-drawn origin row column ts = flat_map (cells_of origin) (strips_from row column (runs_of ts))
+drawn origin row column ts = flat_map (cells_of_strip origin) (strips_from row column (runs_of ts))
 
 -- the cell in this row and column
 abbrev live_cell : Origin → ℕ → ℕ → ℕ → CellSet
 live_cell origin row column s = record { x = origin.x +ℤ pos column; y = origin.y +ℤ pos row; state = s }
 
 -- the first cell of a strip, and those behind it
-cells_of-first : (origin : Origin) (row column n m s : ℕ) → n ≡ suc m
-    → cells_of origin (record { row = row; column = column; count = n; state = s })
-    ≡ live_cell origin row column s ∷ cells_of origin (record { row = row; column = column + 1; count = m; state = s })
-cells_of-first origin row column n m s is =
+cells_of_strip-first : (origin : Origin) (row column n m s : ℕ) → n ≡ suc m
+    → cells_of_strip origin (record { row = row; column = column; count = n; state = s })
+    ≡ live_cell origin row column s ∷ cells_of_strip origin (record { row = row; column = column + 1; count = m; state = s })
+cells_of_strip-first origin row column n m s is =
     let whole : Strip = record { row = row; column = column; count = n; state = s } in
     let later : Strip = record { row = row; column = column + 1; count = m; state = s } in
     let same = λ (k : ℕ). same_cell (cell_at origin whole (1 + k)) (cell_at origin later k) (omega (arith, ints)) refl refl in
@@ -35,13 +35,13 @@ cells_of-first origin row column n m s is =
 
 -- a run that isn't of state 0
 drawn-run : (origin : Origin) (row column n s : ℕ) (ts : List Token) → 0 < s
-    → drawn origin row column (token.Run n s ∷ ts) ≡ cells_of origin (record { row = row; column = column; count = n; state = s }) ++ drawn origin row (column + n) ts
+    → drawn origin row column (token.Run n s ∷ ts) ≡ cells_of_strip origin (record { row = row; column = column; count = n; state = s }) ++ drawn origin row (column + n) ts
 drawn-run origin row column n s ts live = rw (differs s 0 (λ e. omega arith)) refl
 
 -- a cell that is joined with what follows
 drawn-joined : (origin : Origin) (row column s : ℕ) (ts : List Token) → 0 < s
     → drawn origin row column (joined 1 s ts) ≡ live_cell origin row column s ∷ drawn origin row (column + 1) ts
-drawn-joined origin row column s ts live = grind (arith, nat_tests, drawn-run, cells_of-first)
+drawn-joined origin row column s ts live = grind (arith, nat_tests, drawn-run, cells_of_strip-first)
 
 drawn-zeros : (origin : Origin) (row column gap : ℕ) (ts : List Token) → drawn origin row column (zeros gap ++ ts) ≡ drawn origin row (column + gap) ts
 drawn-zeros origin row column gap ts = grind (arith)
@@ -88,13 +88,13 @@ drawn-tokens origin row column from (c ∷ cs) y x h =
     (drawn-tokens origin r (k + 1) (behind c.0) cs at_y (omega (arith, ints, at_x)) h.1.1))
 
 -- so many cells are counted as are drawn
-pub live_count-drawn : (origin : Origin) (strips : List Strip) → live_count strips ≡ length (flat_map (cells_of origin) strips)
+pub live_count-drawn : (origin : Origin) (strips : List Strip) → live_count strips ≡ length (flat_map (cells_of_strip origin) strips)
 live_count-drawn origin [] = refl
 live_count-drawn origin (strip ∷ strips) =
     omega (
       arith,
       sum_by-cons (λ (s : Strip). s.count) strip strips,
-      length-append (cells_of origin strip) (flat_map (cells_of origin) strips),
+      length-append (cells_of_strip origin strip) (flat_map (cells_of_strip origin) strips),
       length-map-range_with_len (cell_at origin strip) 0 strip.count,
       live_count-drawn origin strips,
     )
@@ -115,7 +115,7 @@ in_range z low high = grind (arith, ints)
 abbrev pub IsLaidInside : CellSet → Type 0
 IsLaidInside c = IsInside 0 c.x c.y
 
-strip-inside : (origin : Origin) (strip : Strip) → 0 < strip.count → AllByRecursion IsLaidInside (cells_of origin strip) → lies_inside origin strip ≡ true
+strip-inside : (origin : Origin) (strip : Strip) → 0 < strip.count → AllByRecursion IsLaidInside (cells_of_strip origin strip) → lies_inside origin strip ≡ true
 strip-inside origin strip some h =
     let first = one_of_range IsLaidInside (cell_at origin strip) strip.count 0 some h in
     let last = one_of_range IsLaidInside (cell_at origin strip) strip.count (strip.count - 1) (omega arith) h in
@@ -129,5 +129,5 @@ drawn-inside most states row column origin (token.End ∷ ts) h inside = refl
 drawn-inside most states row column origin (token.RowEnds n ∷ ts) h inside = drawn-inside most states (row + n) 0 origin ts h.1 inside
 drawn-inside most states row column origin (token.Run n s ∷ ts) h inside =
     let strip : Strip = record { row = row; column = column; count = n; state = s } in
-    let parts = all_parts IsLaidInside (cells_of origin strip) (flat_map (cells_of origin) (strips_from row (column + n) (runs_of ts))) in
+    let parts = all_parts IsLaidInside (cells_of_strip origin strip) (flat_map (cells_of_strip origin) (strips_from row (column + n) (runs_of ts))) in
     grind (arith, nat_tests, parts, strip-inside origin strip h.0.0, drawn-inside most states row (column + n) origin ts h.1)

@@ -1,5 +1,5 @@
 -- Strips of cells: where they lie, also by numbers that stand at 2^64 - 1 where they are greater, and their cells one after another.
-use Rattle.multistate_rle.proofs.Names.{CellSet, IsInside, List, Origin, SFits, Strip, [], and_parts, and_right, arith, both_ways, capped, cases_lt, cells_of, cells_of_span, cells_of_spans, false, flat_map-append, int_le, int_lt, ints}
+use Rattle.multistate_rle.proofs.Names.{CellSet, IsInside, List, Origin, SFits, Strip, [], and_parts, and_right, arith, both_ways, capped, cases_lt, cells_of_strip, cells_of_span, cells_of_spans, false, flat_map-append, int_le, int_lt, ints}
 use Rattle.multistate_rle.proofs.Names.{is_in_range, lies_inside, min, nat_tests, neg_ℤ, pos, refl, true, w64, ℕ, ℤ, ◌++◌, ◌+ℤ◌, ◌+◌, ◌-◌, ◌<ℤ◌, ◌^◌, ◌∷◌, ◌≡◌, ◌≤ℤ◌, ◌≤◌}
 use Rattle.std.proofs.lemmas.List.{append-nil}
 use Rattle.plane_core.specs.declared.span.Span.{Span}
@@ -46,7 +46,7 @@ pub lies_within : (origin : Origin) (strip : Strip) → lies_inside origin strip
 lies_within origin strip inside = grind (arith, ints, nat_tests, and_parts, bounds)
 
 -- a strip's cells, as a span
-pub span-strip : (origin : Origin) (strip : Strip) (s : Span) → s.x ≡ origin.x +ℤ pos strip.column → s.y ≡ origin.y +ℤ pos strip.row → s.count ≡ strip.count → s.state ≡ strip.state → cells_of_span s ≡ cells_of origin strip
+pub span-strip : (origin : Origin) (strip : Strip) (s : Span) → s.x ≡ origin.x +ℤ pos strip.column → s.y ≡ origin.y +ℤ pos strip.row → s.count ≡ strip.count → s.state ≡ strip.state → cells_of_span s ≡ cells_of_strip origin strip
 span-strip origin strip s x y count state = grind (arith, ints, same_cell)
 
 -- one span more

@@ -6,7 +6,7 @@ use Rattle.worlds.specs.World.{World, blank}
 use Rattle.multistate_rle.specs.declared.comment.Origin.{Origin}
 use Rattle.multistate_rle.specs.declared.fault.RleFault.{RleFault}
 use Rattle.multistate_rle.specs.declared.fault.RleFault.TheVariants.{TooManyLive, CellOutOfRange, NoMemory}
-use Rattle.multistate_rle.specs.Pattern.{Strip, lies_inside, cells_of}
+use Rattle.multistate_rle.specs.Pattern.{Strip, lies_inside, cells_of_strip}
 
 -- where the next run begins, how many live cells there were, whether all lie in the plane, whether
 -- no growth was refused, and the cells that are kept
@@ -53,7 +53,7 @@ with_strip d strip =
       live = live;
       is_inside = is_inside;
       cells = if d.is_whole && (nat_le live 16777216 && is_inside)
-          then d.cells ++ cells_of d.origin strip else d.cells;
+          then d.cells ++ cells_of_strip d.origin strip else d.cells;
     }
 
 -- the same without its cells, since a growth was refused

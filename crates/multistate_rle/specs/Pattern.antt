@@ -75,15 +75,15 @@ cell_at origin strip k =
     }
 
 -- the cells of a strip, from the left
-abbrev pub cells_of : Origin → Strip → List CellSet
-cells_of origin strip = map (cell_at origin strip) (range_with_len 0 strip.count)
+abbrev pub cells_of_strip : Origin → Strip → List CellSet
+cells_of_strip origin strip = map (cell_at origin strip) (range_with_len 0 strip.count)
 
 -- the world of some strips: at most 16,777,216 cells, and all of them in the plane
 abbrev pub world_of : Origin → List Strip → Result World RleFault
 world_of origin strips =
     if nat_lt 16777216 (live_count strips) then Err TooManyLive else
     (if list_all (lies_inside origin) strips
-    then Ok (lay (flat_map (cells_of origin) strips) blank) else Err CellOutOfRange)
+    then Ok (lay (flat_map (cells_of_strip origin) strips) blank) else Err CellOutOfRange)
 
 -- the world that the symbols of a body draw
 abbrev pub drawn_by : Origin → List Symbol → Result World RleFault

@@ -2,7 +2,7 @@
 ghost use Rattle.std.specs.Prelude.{◌≡◌, ◌+◌, ◌<◌, ◌≤◌, [], ◌∷◌, ◌++◌, ◌&&◌, All, IsTrue, OnOk, Err, pos, ◌+ℤ◌};
 ghost use Rattle.basics.specs.Results.{Gives};
 ghost use Rattle.plane_core.specs.Spans.{CanBeDrawn};
-ghost use Rattle.multistate_rle.specs.Pattern.{cells_of, is_in_range, lies_inside};
+ghost use Rattle.multistate_rle.specs.Pattern.{cells_of_strip, is_in_range, lies_inside};
 ghost use Rattle.multistate_rle.specs.Drawing.{IsLike, WantsAlone, after_cells, after_rows, given_up, strip_at, undrawn, with_strip, world_drawn};
 
 use crate::comment::Origin;
@@ -125,7 +125,7 @@ impl Drawing {
         requires few { count ≤ LIVE_LIMIT }
         requires inside { IsTrue (lies_inside self.old.origin (strip_at self.old count state)) }
         ensures { let strip = strip_at self.old count state in
-            let cells = self.old.cells ++ cells_of self.old.origin strip in
+            let cells = self.old.cells ++ cells_of_strip self.old.origin strip in
             IsLike (record self.old { cells = cells }) self.new }
     {
         let span = Span {

@@ -11,9 +11,9 @@ use Rattle.plane_core.proofs.Shared.Numbering.{Grows}
 use Rattle.plane_core.proofs.Shared.Sound as sound
 use Rattle.plane_core.proofs.Shared.Tidy as tidy
 use Rattle.plane_core.proofs.Shared.Tidy.{LevelsUpTo}
-use Rattle.square_table.specs.Packing.{IsFound}
-use Rattle.square_table.specs.declared.pack.Found.{Found}
-use Rattle.square_table.specs.declared.pack.Found.TheVariants as found
+use Rattle.square_table.specs.Packing.{IsPackStep}
+use Rattle.square_table.specs.declared.pack.PackStep.{PackStep}
+use Rattle.square_table.specs.declared.pack.PackStep.TheVariants as found
 use Rattle.square_table.specs.declared.pack.Packed.{Packed}
 use Rattle.square_table.proofs.Shared.Numbers.{one_level, one_number, square_in-IsSquare, square_in-cell}
 use Rattle.square_table.proofs.Shared.Tables.{above_zero}
@@ -158,7 +158,7 @@ known_kept rows old new k n None grows h = tt
 known_kept rows old new k n (Some m) grows h = Has-grown k (square_in rows k n) old new m grows h
 
 -- what is found of a square stays so while another is packed
-pub found_still : (rows : List (List ℕ)) (k n j : ℕ) (t : Square) (old new : List SquareRow) (m : ℕ) (f : Found) → Walks j t old new m → IsFound rows k n old f → IsFound rows k n new f
+pub found_still : (rows : List (List ℕ)) (k n j : ℕ) (t : Square) (old new : List SquareRow) (m : ℕ) (f : PackStep) → Walks j t old new m → IsPackStep rows k n old f → IsPackStep rows k n new f
 found_still rows k n j t old new m (found.Number p) walk h = Has-grown k (square_in rows k n) old new p (walked_grows j t old new m walk) h
 found_still rows k n j t old new m (found.Quadrants kids) walk h = h
 

@@ -6,8 +6,8 @@ use Rattle.plane_core.specs.Rows as listed
 use Rattle.plane_core.specs.Rows.{no_row}
 use Rattle.plane_core.specs.Walks.{Has, Walks}
 use Rattle.plane_core.specs.Centre.{centred}
-use Rattle.square_table.specs.declared.pack.Found.{Found}
-use Rattle.square_table.specs.declared.pack.Found.TheVariants as found
+use Rattle.square_table.specs.declared.pack.PackStep.{PackStep}
+use Rattle.square_table.specs.declared.pack.PackStep.TheVariants as found
 use Rattle.square_table.specs.declared.pack.Packed.{Packed}
 use Rattle.square_table.specs.declared.pack.Quarters.{Quarters}
 use Rattle.square_table.specs.declared.square.Square as squares
@@ -39,9 +39,9 @@ pub record IsPacking (rows : List (List ℕ)) (packed : Packed) : Type 0 where
 
 -- of the square of level k with the number n its number among the rows of a plane was found, or
 -- else its quadrants
-abbrev pub IsFound : List (List ℕ) → ℕ → ℕ → List SquareRow → Found → Type 0
-IsFound rows k n packed (found.Number m) = Has k (square_in rows k n) packed m
-IsFound rows k n packed (found.Quadrants kids) = kids ≡ kids_at rows n
+abbrev pub IsPackStep : List (List ℕ) → ℕ → ℕ → List SquareRow → PackStep → Type 0
+IsPackStep rows k n packed (found.Number m) = Has k (square_in rows k n) packed m
+IsPackStep rows k n packed (found.Quadrants kids) = kids ≡ kids_at rows n
 
 -- squares of levels up to k are packed, and what is remembered of others is as it was
 pub record Packs (rows : List (List ℕ)) (k : ℕ) (old new : Packed) : Type 0 where

@@ -9,7 +9,7 @@ ghost use Rattle.plane_core.specs.Walks.{Walks};
 ghost use Rattle.square_table.specs.Squares.{IsHeld, IsNumber, AreNumbers, first_number, kids_at, square_in, level_of, cells_of};
 ghost use Rattle.square_table.specs.Centred.{IsCentred};
 ghost use Rattle.square_table.specs.Renumbering.{known_of, known_range};
-ghost use Rattle.square_table.specs.Packing.{IsFound, IsPacking, Packs, WalksFour, IsPadded, SharesSquare, IsAlike, square_by};
+ghost use Rattle.square_table.specs.Packing.{IsPackStep, IsPacking, Packs, WalksFour, IsPadded, SharesSquare, IsAlike, square_by};
 
 use crate::renumbering::{RANGE, Renumbering};
 use crate::slots::is_same;
@@ -31,7 +31,7 @@ struct Quarters {
 // What is found of a square: its number among the rows that are packed, or, where it has none, its
 // quadrants.
 #[derive(Clone, Copy, Debug)]
-enum Found {
+enum PackStep {
     Number(u32),
     Quadrants([u32; 4]),
 }
@@ -163,16 +163,16 @@ impl<'a> SquareTable<'a> {
 
     // What is packed of a square, or its quadrants.
     #[inline(always)]
-    fn find(&self, packed: &Packed, number: u32) -> Found
+    fn find(&self, packed: &Packed, number: u32) -> PackStep
         requires above { first_number ≤ number }
         requires there { number < first_number + length self.now.rows }
         requires packed { IsPacking self.now.rows packed.now }
         ensures { (level : ℕ) → 1 ≤ level → IsNumber self.now.rows level number →
-            IsFound self.now.rows level number packed.now.squares.items result }
+            IsPackStep self.now.rows level number packed.now.squares.items result }
     {
         match packed.numbers.get(number) {
-            Some(known) => Found::Number(known),
-            None => Found::Quadrants(self.quadrants(number)),
+            Some(known) => PackStep::Number(known),
+            None => PackStep::Quadrants(self.quadrants(number)),
         }
     }
 
@@ -219,19 +219,19 @@ impl<'a> SquareTable<'a> {
         packed: &mut Packed,
         level: u8,
         number: u32,
-        found: Found,
+        found: PackStep,
     ) -> Result<u32, AllocError>
         requires level { (1 ≤ level) × (level ≤ 61) }
         requires number { IsNumber self.now.rows level number }
         requires packed { IsPacking self.now.rows packed.old }
-        requires found { IsFound self.now.rows level number packed.old.squares.items found }
+        requires found { IsPackStep self.now.rows level number packed.old.squares.items found }
         ensures walks { IfOk result (Walks level (square_in self.now.rows level number)
             packed.old.squares.items packed.new.squares.items) }
         ensures packs { OnOk result (Packs self.now.rows level packed.old packed.new) }
     {
         let quadrants = match found {
-            Found::Number(known) => return Ok(known),
-            Found::Quadrants(quadrants) => quadrants,
+            PackStep::Number(known) => return Ok(known),
+            PackStep::Quadrants(quadrants) => quadrants,
         };
         if let Some(known) = packed.numbers.get(number) {
             return Ok(known);

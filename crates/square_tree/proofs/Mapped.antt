@@ -1,5 +1,5 @@
 -- What a change of a quadtree does to the map that contracts see.
-use Rattle.square_tree.proofs.Names.{Cells, HasLevel, IsLaid, IsPartlyLaid, IsPartlyOverlaid, IsTreeOf, None, Place, Quadtree, Some, ap, ap₂, arith, at, at_from, cells_of, cond, entries, false, find, inl, inr, ints, keep, least, nat_tests}
+use Rattle.square_tree.proofs.Names.{Cells, HasLevel, IsLaid, IsPartlyLaid, IsPartlyOverlaid, IsTreeOf, None, Place, Quadtree, Some, ap, ap₂, arith, at, at_from, cells_of_tree, cond, entries, false, find, inl, inr, ints, keep, least, nat_tests}
 use Rattle.square_tree.proofs.Names.{negsuc, option_or, overlaid, place_cmp, pos, reach, refl, same_place, sym, true, ℕ, ℤ, ◌++◌, ◌+ℤ◌, ◌-ℤ◌, ◌-◌, ◌<ℤ◌, ◌<◌, ◌∙◌, ◌≡◌, ◌≤◌, ◌⊎◌}
 use Rattle.std.specs.FinMap as finite
 use Rattle.square_tree.specs.Change.{IsSet}
@@ -25,7 +25,7 @@ unfolding states_of
 get_north l t x y p = finite.get-from_entries places_total (entries t l (least l) (least l)) (y, x) ∙ find_north t l (least l) (least l) x y p
 
 -- a quadtree says what contracts see of it
-pub tree_of : (l : ℕ) (t : Quadtree) → HasLevel l t → IsTreeOf (cells_of l t) l t
+pub tree_of : (l : ℕ) (t : Quadtree) → HasLevel l t → IsTreeOf (cells_of_tree l t) l t
 tree_of l t h = record {
   level = h;
   says = λ x y. sym (get_at l t (least l +ℤ pos x) (least l +ℤ pos y) x y h refl refl);
@@ -111,10 +111,10 @@ get_far_north l k t x y less p = get_north k t x y (omega (arith, ints, less, p)
 
 -- one on which a smaller one is laid in the middle
 pub states_of-laid : {l k : ℕ} {other old new : Quadtree} → IsLaid l (reach l - reach k) (reach l - reach k) k other old new → HasLevel k other → HasLevel l old → reach k ≤ reach l
-    → states_of l new ≡ (overlaid (cells_of k other) (cells_of l old)).states
+    → states_of l new ≡ (overlaid (cells_of_tree k other) (cells_of_tree l old)).states
 states_of-laid {l} {k} {other} {old} {new} laid h j less =
-    let c = cells_of k other in
-    let d = cells_of l old in
+    let c = cells_of_tree k other in
+    let d = cells_of_tree l old in
     is_states_of l new (overlaid c d).states laid.level
     (λ x y u v p q. laid.says u v ∙ sym (get-overlaid c d (y, x) ∙ ap₂ option_or (get_from l k other x y u v h less p q) (get_at l old x y u v j p q)))
     (λ x y left. get-overlaid c d (y, x) ∙ ap₂ option_or (get_far_west l k other x y less left) (get_west l old x y left))
@@ -122,10 +122,10 @@ states_of-laid {l} {k} {other} {old} {new} laid h j less =
 
 -- one on which a part of it is laid
 pub partly_overlaid : {l k : ℕ} {other old new : Quadtree} → IsPartlyLaid l (reach l - reach k) (reach l - reach k) k other old new → HasLevel k other → HasLevel l old → reach k ≤ reach l
-    → IsPartlyOverlaid (cells_of k other) (cells_of l old) (cells_of l new)
+    → IsPartlyOverlaid (cells_of_tree k other) (cells_of_tree l old) (cells_of_tree l new)
 partly_overlaid {l} {k} {other} {old} {new} partly h j less =
-    let c = cells_of k other in
-    let d = cells_of l old in
+    let c = cells_of_tree k other in
+    let d = cells_of_tree l old in
     record {
       level = refl;
       states = λ x y.

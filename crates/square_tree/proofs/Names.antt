@@ -1,6 +1,6 @@
 -- The names that the proofs of this crate cite most, passed on from one place. It declares nothing.
 pub use Rattle.square_tree.specs.Cells.{Cells, IsPartlyOverlaid, SpansSquare, least, overlaid, put, reach, row_states, state_at, window_states}
-pub use Rattle.square_tree.specs.Entries.{cells_of, entries}
+pub use Rattle.square_tree.specs.Entries.{cells_of_tree, entries}
 pub use Rattle.square_tree.specs.Laid.{IsAligned, IsLaid, IsPartlyLaid, at_from}
 pub use Rattle.square_tree.specs.Over.{IsPartlyOver, over}
 pub use Rattle.square_tree.specs.Place.{Place, place_cmp, same_place}

@@ -20,5 +20,5 @@ unfoldable pub states_of : ℕ → Quadtree → finite.FinMap place_cmp ℕ
 states_of l t = finite.from_entries (entries t l (least l) (least l))
 
 -- its level and these
-abbrev pub cells_of : ℕ → Quadtree → Cells
-cells_of l t = record { level = l; states = states_of l t }
+abbrev pub cells_of_tree : ℕ → Quadtree → Cells
+cells_of_tree l t = record { level = l; states = states_of l t }

@@ -24,13 +24,13 @@ impl<A: Allocator> Model for Patch<A> {
     ghost use Rattle.std.specs.Prelude.{◌≤◌};
     ghost use Rattle.square_tree.specs.Cells.{Cells, coded_cells};
     ghost use Rattle.square_tree.specs.Quadtree.{quadtree, HasLevel};
-    ghost use Rattle.square_tree.specs.Entries.{cells_of};
+    ghost use Rattle.square_tree.specs.Entries.{cells_of_tree};
 
     ghost Value = { Cells };
 
     ghost coded = { coded_cells };
 
-    ghost view = { λ p. cells_of p.level (quadtree p.tree) };
+    ghost view = { λ p. cells_of_tree p.level (quadtree p.tree) };
 
     ghost invariant = { λ p. (p.level ≤ 62) × HasLevel p.level (quadtree p.tree) };
 }

@@ -1,5 +1,5 @@
 -- Lists of tails and the nodes that do what they do.
-use Rattle.tree_translation.proofs.Names.{All, All-append, All-cons, All-nil, All-push, All-tail, AllPass-from_list_all, AreBegun, AreEntries, AreFit, AreNodes, AreTailsAt, Bool, Does, Fit, Found, GrowsNodes, IsBegun, IsDistinct, IsEntry}
+use Rattle.tree_translation.proofs.Names.{All, All-append, All-cons, All-nil, All-push, All-tail, AllPass-from_list_all, AreBegun, AreEntries, AreFit, AreNodes, AreTailsAt, Bool, Does, Fit, NodeTable, GrowsNodes, IsBegun, IsDistinct, IsEntry}
 use Rattle.tree_translation.proofs.Names.{IsFull, IsGrownBy, IsLayer, IsLeft, IsNode, IsNumberOf, IsStored, Layer, LeftOf, List, Listed, NeedStarts, NeedsTooMany, Node, Some, Start, StartsApart, [], add-one, and_from, and_parts, ap}
 use Rattle.tree_translation.proofs.Names.{append-nil, append_assoc, arith, below_more, bytes_eq-Decides, cases_eq, cases_order, common_steps, cond, drop, drop_more, elements, entries_in, eq-eqb, eqb-true, false, follow, get_or-map}
 use Rattle.tree_translation.proofs.Names.{get_or_default, inl, input_at, inr, length, length-append, length-drop, length-map, list_all-from_AllPass, list_any, map-append, nat_lt, nat_tests, node_at, node_limit, outcome, position_or_len}
@@ -198,7 +198,7 @@ number-made states layers nodes node input list number fit tails same are stored
           does = rw (layers-behind layers input here (next ∷ deeper) from) at one.number_of.does;
         }) stored.entries
 
-module _ (states : ℕ) (layers : List Layer) (input : ℕ) (list left : List ℕ) (s : ℕ) (old mid : Found) (deep : input + 1 < length layers) (under : s < states)
+module _ (states : ℕ) (layers : List Layer) (input : ℕ) (list left : List ℕ) (s : ℕ) (old mid : NodeTable) (deep : input + 1 < length layers) (under : s < states)
     (is : (d : Layer) → LeftOf (slice_index_or layers input d) s list left) (first : GrowsNodes states layers input (input + 1) list old mid) where
   outcome-behind : (ls : List Layer) → drop input layers ≡ ls → (rest : List ℕ) → input + 1 + length rest ≡ length layers
       → outcome (drop input layers) list (s ∷ rest) ≡ outcome (drop (input + 1) layers) left rest
@@ -221,7 +221,7 @@ module _ (states : ℕ) (layers : List Layer) (input : ℕ) (list left : List �
   }
 
   -- what came for the lists behind earlier states, and then for the one behind this state
-  pub Grows-behind : (new : Found) → GrowsNodes states layers (input + 1) (input + 1) left mid new → GrowsNodes states layers input (input + 1) list old new
+  pub Grows-behind : (new : NodeTable) → GrowsNodes states layers (input + 1) (input + 1) left mid new → GrowsNodes states layers input (input + 1) list old new
   Grows-behind new second = record {
     known = second.known;
     more = first.more ++ second.more;
@@ -241,12 +241,12 @@ is-later nodes input number later inside at =
     omega (arith, at, get_or-map (λ (n : Node). n.input) nodes number node 0 inside, later number node inside)
 
 -- what comes with the node that a list gets
-pub record IsMade (states : ℕ) (layers : List Layer) (input : ℕ) (list : List ℕ) (old new : Found) (number : ℕ) : Type 0 where
+pub record IsMade (states : ℕ) (layers : List Layer) (input : ℕ) (list : List ℕ) (old new : NodeTable) (number : ℕ) : Type 0 where
   pub numbered : IsNumberOf states layers new.nodes.keys input list number
   pub grows : GrowsNodes states layers input input list old new
   pub last : All (λ (n : Node). input < n.input) old.nodes.keys → number + 1 ≡ length new.nodes.keys
 
-module _ (states : ℕ) (layers : List Layer) (room input : ℕ) (list : List ℕ) (old mid : Found) (node : Node) (fit : AreFit states layers room)
+module _ (states : ℕ) (layers : List Layer) (room input : ℕ) (list : List ℕ) (old mid : NodeTable) (node : Node) (fit : AreFit states layers room)
     (tails : AreTailsAt layers input list) (grown : GrowsNodes states layers input (input + 1) list old mid)
     (are : AreEntries states layers mid.nodes.keys input list node.entries) (same : node.input ≡ input) where
   abbrev before : List Node
@@ -279,7 +279,7 @@ module _ (states : ℕ) (layers : List Layer) (room input : ℕ) (list : List �
       subst (NeedStarts states (length layers) (λ k inputs. give inputs) 1) (length-append before (node ∷ []) ∙ omega (arith, full.all))
       (nodes-needed states (length layers) give after (nodes-with full.apart) (begun-with give begun left))
 
-  module _ (new : Found) (number : ℕ) (key : Listed) (key_input : key.input ≡ input) (key_list : key.numbers.items ≡ list)
+  module _ (new : NodeTable) (number : ℕ) (key : Listed) (key_input : key.input ≡ input) (key_list : key.numbers.items ≡ list)
       (stored : IsStored new.nodes.keys node number) (put : IsGrownBy mid.nodes.keys node new.nodes.keys)
       (apart : IsDistinct same_node new.nodes.keys) (few : length new.nodes.keys ≤ node_limit)
       (numbers : (q : Listed) → get same_listed new.numbers q ≡ cond (same_listed key q) (Some number) (get same_listed mid.numbers q)) where

@@ -29,11 +29,11 @@ pub use Rattle.tree_translation.specs.NodesNeeded.{NeedTwoNodes, NeedsNodes}
 pub use Rattle.tree_translation.specs.Numbering.{AreBegun, AreEntries, AreFit, AreNodes, AreTailsAt, GrowsNodes, IsBegun, IsEntry, IsFull, IsLeft, IsNode, IsNumberOf, IsStored, NeedsTooMany, entries_in, input_at, same_listed, same_node}
 pub use Rattle.tree_translation.specs.Packed.{keeps_runs, runs_from, spread_from}
 pub use Rattle.tree_translation.specs.Starts.{NeedStarts, Start, StartsApart, start_at}
-pub use Rattle.tree_translation.specs.TailsFound.{AreMarked, IsFound, is_in}
+pub use Rattle.tree_translation.specs.TailsFound.{AreMarked, AreTailsFound, is_in}
 pub use Rattle.tree_translation.specs.Translation.{AreLeaves, DoTable, Does, DoesRows, LeftOf, Translates, asked_behind, first_some, last_of, neighbors_of, node_limit, order_of, outcome, rows_give}
 pub use Rattle.tree_translation.specs.declared.layers.Layer.{Layer}
 pub use Rattle.tree_translation.specs.declared.layers.Tail.{Tail}
 pub use Rattle.tree_translation.specs.declared.listed.Listed.{Listed}
 pub use Rattle.tree_translation.specs.declared.listed.Node.{Node}
-pub use Rattle.tree_translation.specs.declared.numbering.Found.{Found}
+pub use Rattle.tree_translation.specs.declared.numbering.NodeTable.{NodeTable}
 pub use Rattle.worlds.specs.Step.{AreNineBelow, nine_zeros}

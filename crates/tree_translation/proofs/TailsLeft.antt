@@ -1,5 +1,5 @@
 -- What tails leave behind an input, and the marks of what was found of it.
-use Rattle.tree_translation.proofs.Names.{All, All-push, AreMarked, Bool, IsFound, Layer, List, Option, [], arith, asked_behind, common_steps, elements, false, first_some, get_or_default, is_in, length, lets, option_or, rest_at, set, true}
+use Rattle.tree_translation.proofs.Names.{All, All-push, AreMarked, Bool, AreTailsFound, Layer, List, Option, [], arith, asked_behind, common_steps, elements, false, first_some, get_or_default, is_in, length, lets, option_or, rest_at, set, true}
 use Rattle.tree_translation.proofs.Names.{ℕ, ◌++◌, ◌<◌, ◌∷◌, ◌≡◌}
 
 -- one more is asked
@@ -23,9 +23,9 @@ marked-push marks found known n inside = record {
   inside = grind (arith, elements, known.inside);
 }
 
-module _ (layer : Layer) (state : ℕ) (passed : List ℕ) (marks : List Bool) (found : List ℕ) (known : IsFound layer state passed marks found) (number : ℕ) where
+module _ (layer : Layer) (state : ℕ) (passed : List ℕ) (marks : List Bool) (found : List ℕ) (known : AreTailsFound layer state passed marks found) (number : ℕ) where
   -- a tail that doesn't let the input be this state
-  pub found-passed : lets layer number state ≡ false → IsFound layer state (passed ++ number ∷ []) marks found
+  pub found-passed : lets layer number state ≡ false → AreTailsFound layer state (passed ++ number ∷ []) marks found
   found-passed e = record {
     left = λ f. grind (arith, known.left f, first_some-push (asked_behind layer state f) passed number);
     rests = known.rests;
@@ -33,7 +33,7 @@ module _ (layer : Layer) (state : ℕ) (passed : List ℕ) (marks : List Bool) (
   }
 
   -- a tail of which the same is left as was found
-  pub found-again : is_in (rest_at layer number) found ≡ true → IsFound layer state (passed ++ number ∷ []) marks found
+  pub found-again : is_in (rest_at layer number) found ≡ true → AreTailsFound layer state (passed ++ number ∷ []) marks found
   found-again there = record {
     left = λ f. grind (arith, known.left f, first_some-again f found (rest_at layer number) there, first_some-push (asked_behind layer state f) passed number);
     rests = known.rests;
@@ -42,7 +42,7 @@ module _ (layer : Layer) (state : ℕ) (passed : List ℕ) (marks : List Bool) (
 
   -- a tail of which something else is left
   pub found-more : number < length layer.tails.items → lets layer number state ≡ true → rest_at layer number < length marks
-      → IsFound layer state (passed ++ number ∷ []) (set marks (rest_at layer number) true) (found ++ rest_at layer number ∷ [])
+      → AreTailsFound layer state (passed ++ number ∷ []) (set marks (rest_at layer number) true) (found ++ rest_at layer number ∷ [])
   found-more there e inside = record {
     left = λ f. grind (arith, known.left f, first_some-push f found (rest_at layer number), first_some-push (asked_behind layer state f) passed number);
     rests = λ count fits. All-push (λ n. n < count) found (rest_at layer number) (known.rests count fits) (fits.rests number (record { set = 0; rest = 0 }) there);

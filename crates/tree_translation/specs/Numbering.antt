@@ -7,7 +7,7 @@ use Rattle.rule_file.specs.States.{most_states}
 use Rattle.tree_translation.specs.declared.layers.Layer.{Layer}
 use Rattle.tree_translation.specs.declared.listed.Listed.{Listed}
 use Rattle.tree_translation.specs.declared.listed.Node.{Node}
-use Rattle.tree_translation.specs.declared.numbering.Found.{Found}
+use Rattle.tree_translation.specs.declared.numbering.NodeTable.{NodeTable}
 use Rattle.tree_translation.specs.Layers.{Fit}
 use Rattle.tree_translation.specs.Starts.{NeedStarts}
 use Rattle.tree_translation.specs.Translation.{AreLeaves, Does, LeftOf, node_limit, outcome}
@@ -65,7 +65,7 @@ pub record IsNumberOf (states : ℕ) (layers : List Layer) (nodes : List Node) (
   pub does : Does states (drop input layers) (entries_in nodes) list number
 
 -- the nodes that were made, and the numbers of those that do what was listed
-pub record Knows (states : ℕ) (layers : List Layer) (found : Found) : Type 0 where
+pub record Knows (states : ℕ) (layers : List Layer) (found : NodeTable) : Type 0 where
   pub few : length found.nodes.keys ≤ node_limit
   pub nodes : AreNodes states (length layers) found.nodes.keys
   pub numbers : (key : Listed) (number : ℕ) → get same_listed found.numbers key ≡ Some number
@@ -96,7 +96,7 @@ pub record IsLeft (states : ℕ) (layers : List Layer) (give : List ℕ → ℕ)
 -- more nodes came, each for an input from `from` on, and each for a beginning where the tails that
 -- were looked at are left behind one
 pub record GrowsNodes (states : ℕ) (layers : List Layer) (input from : ℕ) (list : List ℕ)
-    (old new : Found)
+    (old new : NodeTable)
     : Type 0 where
   pub known : Knows states layers new
   pub more : List Node
@@ -106,7 +106,7 @@ pub record GrowsNodes (states : ℕ) (layers : List Layer) (input from : ℕ) (l
       → IsLeft states layers give input list → AreBegun states (length layers) give new.nodes.keys
 
 -- a tree that gives the same needs more nodes than a tree may have
-abbrev pub NeedsTooMany : ℕ → List Layer → ℕ → List ℕ → Found → Type 0
+abbrev pub NeedsTooMany : ℕ → List Layer → ℕ → List ℕ → NodeTable → Type 0
 NeedsTooMany states layers input list found =
     (give : List ℕ → ℕ) → AreBegun states (length layers) give found.nodes.keys
     → IsLeft states layers give input list
@@ -145,7 +145,7 @@ pub record AreTailsAt (layers : List Layer) (input : ℕ) (list : List ℕ) : Ty
 -- layers that fit, tails of the layer of an input, nodes that are known, and a false for each tail
 -- of any layer
 pub record CanNumber (states : ℕ) (layers : List Layer) (input : ℕ) (list : List ℕ)
-    (marks : List Bool) (found : Found)
+    (marks : List Bool) (found : NodeTable)
     : Type 0 where
   pub fit : AreFit states layers (length marks)
   pub tails : AreTailsAt layers input list

@@ -16,7 +16,7 @@ pub record AreMarked (marks : List Bool) (found : List ℕ) : Type 0 where
   pub inside : All (λ n. n < length marks) found
 
 -- what was found of what tails leave, with its marks
-pub record IsFound (layer : Layer) (state : ℕ) (passed : List ℕ) (marks : List Bool)
+pub record AreTailsFound (layer : Layer) (state : ℕ) (passed : List ℕ) (marks : List Bool)
     (found : List ℕ)
     : Type 0 where
   pub left : LeftOf layer state passed found

@@ -10,7 +10,7 @@ ghost use Rattle.rule_file.specs.States.{most_states};
 ghost use Rattle.tree_translation.specs.declared.tree_fault.TreeFault.TheVariants.{TreeTooLarge};
 ghost use Rattle.tree_translation.specs.Layers.{IsLayer, lets, rest_at};
 ghost use Rattle.tree_translation.specs.Numbering.{AreEntries, CanNumber, GrowsNodes, IsNumberOf, NeedsTooMany, entries_in};
-ghost use Rattle.tree_translation.specs.TailsFound.{AreMarked, IsFound};
+ghost use Rattle.tree_translation.specs.TailsFound.{AreMarked, AreTailsFound};
 ghost use Rattle.tree_translation.specs.Translation.{AreLeaves, LeftOf, first_some};
 
 use crate::layers::Layer;
@@ -25,7 +25,7 @@ use std::collections::HashMap;
 
 /// The nodes that were made, and the number of the node for each list that was looked at.
 #[derive(Debug, Drop)]
-pub struct Found {
+pub struct NodeTable {
     pub numbers: HashMap<Listed, u32>,
     pub nodes: IndexSet<Node>,
 }
@@ -47,7 +47,7 @@ pub fn number_of(
     input: usize,
     list: &[u32],
     marks: &mut [bool],
-    found: &mut Found,
+    found: &mut NodeTable,
 ) -> Result<u32, TreeFault>
     requires { CanNumber states layers.now input list.now marks.old found.old }
     ensures number { IfOk result
@@ -85,7 +85,7 @@ fn entries_of(
     input: usize,
     list: &[u32],
     marks: &mut [bool],
-    found: &mut Found,
+    found: &mut NodeTable,
 ) -> Result<Vec<u32>, TreeFault>
     requires { CanNumber states layers.now input list.now marks.old found.old }
     ensures entries { IfOk result
@@ -137,7 +137,7 @@ fn number_again(
     list: &[u32],
     latest: Option<&Latest>,
     marks: &mut [bool],
-    found: &mut Found,
+    found: &mut NodeTable,
 ) -> Result<u32, TreeFault>
     requires ready { CanNumber states layers.now input list.now marks.old found.old }
     requires latest { IfSome latest
@@ -232,8 +232,8 @@ fn add_rest(
     requires layer { IsLayer layer.now (length is_there.old) }
     requires inside { number < length layer.now.tails.items }
     ensures { OnOk result ((passed : List ℕ) →
-        IsFound layer.now state passed is_there.old found.old.items →
-        IsFound layer.now state (passed ++ number ∷ []) is_there.new found.new.items) }
+        AreTailsFound layer.now state passed is_there.old found.old.items →
+        AreTailsFound layer.now state (passed ++ number ∷ []) is_there.new found.new.items) }
 {
     if !layer.lets(number, state) {
         return Ok(());

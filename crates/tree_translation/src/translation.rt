@@ -17,7 +17,7 @@ ghost use Rattle.tree_translation.specs.Translation.{CanTranslate, DoTable, Does
 
 use crate::layers::layers_of;
 use crate::listed::Node;
-use crate::numbering::{Found, number_of};
+use crate::numbering::{NodeTable, number_of};
 use crate::sharing::joined;
 use crate::tree_fault::TreeFault;
 use decision_tree::{Entries, Neighbors, TreeRule};
@@ -84,7 +84,7 @@ fn nodes_for(
     let mut marks = Vec::from_elem(alloc, false, rows.len())?;
     // a million rows take as much memory as half a million nodes
     drop(rows);
-    let mut found = Found {
+    let mut found = NodeTable {
         numbers: HashMap::new(alloc),
         nodes: IndexSet::new(alloc),
     };

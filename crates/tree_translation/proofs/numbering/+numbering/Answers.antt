@@ -1,4 +1,4 @@
-use Rattle.tree_translation.proofs.Names.{All, AreFit, AreTailsAt, Found, GrowsNodes, IsEntry, IsLayer, IsNumberOf, Layer, LeftOf, Listed, Node, TreatsAlike, arith, common_steps, get_or_default, length, refl, rules, slice_index}
+use Rattle.tree_translation.proofs.Names.{All, AreFit, AreTailsAt, NodeTable, GrowsNodes, IsEntry, IsLayer, IsNumberOf, Layer, LeftOf, Listed, Node, TreatsAlike, arith, common_steps, get_or_default, length, refl, rules, slice_index}
 use Rattle.tree_translation.proofs.Names.{slice_index_or, sym, ℕ, ◌+◌, ◌/◌, ◌<◌, ◌∙◌, ◌≡◌, ◌≤◌}
 use Rattle.tree_translation.proofs.Apart.{passed-on}
 use Rattle.tree_translation.proofs.MadeNodes.{Grows-behind, IsEntry-append, entries-small, is-later, NeedsTooMany-behind, layer-before, layer-last, layer-room, made, too-many}
@@ -116,7 +116,7 @@ pub number_of-returns : goal.number_of-returns
 number_of-returns t c =
     let node : Node = record { input = c.args.input; entries = c.in_ok-of.field-0 } in
     let key : Listed = record { input = c.args.input; numbers = c.in_ok-to_vec.field-0 } in
-    let new : Found = record { numbers = c.insert.new.self; nodes = c.add_node.new.nodes } in
+    let new : NodeTable = record { numbers = c.insert.new.self; nodes = c.add_node.new.nodes } in
     let entries = c.in_ok-entries.ensures in
     let stored = c.in_ok-number.ensures in
     let comes = made c.args.states c.args.layers.now (length c.args.marks.now) c.args.input c.args.list.now c.args.found.now c.entries_of.new.found node c.requires.fit

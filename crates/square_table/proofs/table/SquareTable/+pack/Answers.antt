@@ -1,5 +1,5 @@
 use Rattle.square_table.proofs.Names.{IsNumber, List, None, arith, first_number, known_of, length, subst, sym, ℕ, ◌+◌, ◌-◌, ◌<◌, ◌∙◌, ◌≡◌, ◌≤◌}
-use Rattle.square_table.specs.Packing.{IsFound}
+use Rattle.square_table.specs.Packing.{IsPackStep}
 use Rattle.square_table.proofs.Shared.Tables.{above_zero}
 use Rattle.square_table.proofs.Packing.{found_still, level_suc, packed_more, packed_states, packs_none, packs_then, quadrant_numbers, recalled, unknown_new, walk_whole}
 use Rattle.square_table.proofs.table.SquareTable.+pack.Goals as goal
@@ -80,7 +80,7 @@ pub pack_square-pack_new-requires : goal.pack_square-pack_new-requires
 pack_square-pack_new-requires t c =
     let none : known_of c.args.packed.now.numbers c.args.number ≡ None = sym c.get.ensures ∙ c.in_default.is in (
       omega (arith, c.decreases),
-      (c.requires.level, (c.requires.number, (subst (IsFound c.args.self.now.rows c.args.level c.args.number c.args.packed.now.squares.items) c.in-Quadrants.is c.requires.found, (c.requires.packed, none)))),
+      (c.requires.level, (c.requires.number, (subst (IsPackStep c.args.self.now.rows c.args.level c.args.number c.args.packed.now.squares.items) c.in-Quadrants.is c.requires.found, (c.requires.packed, none)))),
     )
 
 pub pack_new-pack_kids-requires : goal.pack_new-pack_kids-requires

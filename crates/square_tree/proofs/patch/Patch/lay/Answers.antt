@@ -1,4 +1,4 @@
-use Rattle.square_tree.proofs.Names.{Cells, IsPartlyOverlaid, ap, arith, cells_of, overlaid, place_cmp, quadtree, subst, ℕ, ◌∙◌, ◌≡◌, ◌≤◌}
+use Rattle.square_tree.proofs.Names.{Cells, IsPartlyOverlaid, ap, arith, cells_of_tree, overlaid, place_cmp, quadtree, subst, ℕ, ◌∙◌, ◌≡◌, ◌≤◌}
 use Rattle.std.specs.FinMap as finite
 use Rattle.square_tree.proofs.Covered.{on_ok, on_err}
 use Rattle.square_tree.proofs.Shared.Quarters.{reach_mono}
@@ -24,7 +24,7 @@ returns-clause-err g c =
     let a : l ≡ c.args.self.now.level = ap (λ (v : Cells). v.level) c.self.view_is in
     let b : k ≡ c.args.other.now.level = ap (λ (v : Cells). v.level) c.other.view_is in
     let less : k ≤ l = omega (arith, a, b, c.requires) in
-    let new = cells_of l (quadtree c.lay.new.self) in
+    let new = cells_of_tree l (quadtree c.lay.new.self) in
     on_err _ c.lay.ensures.err (λ partly.
     subst (λ v. IsPartlyOverlaid v c.args.self.now new) c.other.view_is
-    (subst (λ v. IsPartlyOverlaid (cells_of k (quadtree c.other.inside.tree)) v new) c.self.view_is (partly_overlaid partly c.other.invariant.1 c.self.invariant.1 (reach_mono k l less))))
+    (subst (λ v. IsPartlyOverlaid (cells_of_tree k (quadtree c.other.inside.tree)) v new) c.self.view_is (partly_overlaid partly c.other.invariant.1 c.self.invariant.1 (reach_mono k l less))))
