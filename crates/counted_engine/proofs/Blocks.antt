@@ -6,8 +6,8 @@ use Rattle.counted_engine.proofs.Names.{AreAmong, Makes, and_parts, is_four, is_
 use Rattle.worlds.specs.World.{World}
 use Rattle.worlds.specs.Step.{nine_zeros}
 use Rattle.square_table.specs.declared.square.Square as handles
-use Rattle.hash_life.specs.Puts.{Puts}
-use Rattle.hash_life.proofs.Shared.Places.{what_is_put}
+use Rattle.hash_life_laws.specs.Puts.{Puts}
+use Rattle.hash_life_laws.proofs.Shared.Places.{what_is_put}
 use Rattle.hash_engine.specs.Adding.{GrowsOnWay}
 use Rattle.hash_engine.specs.Asked.{is_put, picked, places_put}
 use Rattle.square_table.specs.Squares.{IsNumber}

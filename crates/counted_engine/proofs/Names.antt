@@ -7,11 +7,11 @@ pub use Rattle.hash_engine.specs.Found.{CanBeAsked}
 pub use Rattle.hash_engine.specs.Memo.{HasNoFull, IsPut, IsRightMemo}
 pub use Rattle.hash_engine.specs.Search.{Asks, IsCounted, sought}
 pub use Rattle.hash_engine.specs.declared.memo.Memo.{Memo}
-pub use Rattle.hash_life.proofs.Shared.Made.{Makes-weaker}
-pub use Rattle.hash_life.proofs.Shared.Put.{Puts-weaker}
-pub use Rattle.hash_life.specs.Makes.{Makes}
-pub use Rattle.hash_life.specs.Puts.{AsksOnce, PutsBlocks, Stands, fours_of, nine_of}
-pub use Rattle.hash_life.specs.Result.{result}
+pub use Rattle.hash_life_laws.proofs.Shared.Made.{Makes-weaker}
+pub use Rattle.hash_life_laws.proofs.Shared.Put.{Puts-weaker}
+pub use Rattle.hash_life_laws.specs.Makes.{Makes}
+pub use Rattle.hash_life_laws.specs.Puts.{AsksOnce, PutsBlocks, Stands, fours_of, nine_of}
+pub use Rattle.hash_life_laws.specs.Result.{result}
 pub use Rattle.square_table.proofs.Shared.Centring.{one_world}
 pub use Rattle.square_table.proofs.Shared.Growth.{IsNumber-grows, square_in-grows}
 pub use Rattle.square_table.proofs.Shared.Making.{within-made}

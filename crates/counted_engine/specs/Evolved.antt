@@ -4,8 +4,8 @@ use Rattle.worlds.specs.World.{World}
 use Rattle.worlds.specs.Step.{step}
 use Rattle.worlds.specs.Iterate.{iterate}
 use Rattle.worlds.specs.Square.{Square, one, four, square_at}
-use Rattle.hash_life.specs.Makes.{Makes}
-use Rattle.hash_life.specs.Puts.{PutsBlocks, AsksOnce}
+use Rattle.hash_life_laws.specs.Makes.{Makes}
+use Rattle.hash_life_laws.specs.Puts.{PutsBlocks, AsksOnce}
 use Rattle.square_table.specs.Centred.{edge}
 use Rattle.square_table.specs.Made.{HoldsWithin}
 use Rattle.step_engine.specs.Evolved.{AreDifferent, HasWay}

@@ -5,8 +5,8 @@ use Rattle.worlds.specs.Square.{square_at}
 use Rattle.square_table.specs.declared.square.Square.{Square}
 use Rattle.square_table.specs.Squares.{Table, first_number, level_of, cells_of}
 use Rattle.square_table.specs.Made.{IsMade}
-use Rattle.hash_life.specs.Puts.{PutsBlocks, AsksOnce}
-use Rattle.hash_life.specs.Makes.{Makes}
+use Rattle.hash_life_laws.specs.Puts.{PutsBlocks, AsksOnce}
+use Rattle.hash_life_laws.specs.Makes.{Makes}
 use Rattle.hash_engine.specs.Asked.{is_four, picked}
 use Rattle.hash_engine.specs.Found.{IsLater}
 use Rattle.counted_engine.specs.declared.found.CountedResult.{CountedResult}

@@ -21,7 +21,7 @@ use crate::arrival::Arrival;
 use crate::book::Book;
 use crate::filled::Filled;
 use crate::row::{Key, RowState, any_out, least_out, lesser, put, raise_all, row_for};
-use crate::text::Text;
+use crate::shared_text::SharedText;
 use desk_events::{Mark, Need};
 use revision_jobs::{Answer, Job, Outcome, Parts, Place};
 use schedule::{Listing, Plane};
@@ -204,7 +204,7 @@ impl Book<'_> {
         let Need::View { id } = need else {
             unreachable!("a step has a pattern")
         };
-        self.put_text(id, RowState::Known(Text::of(bytes)));
+        self.put_text(id, RowState::Known(SharedText::of(bytes)));
     }
 
     // Expects nothing in the row of a need any more.
@@ -233,7 +233,7 @@ impl Book<'_> {
     }
 
     // Puts what is known, or out, in the row of a bookmark. Neither makes another row ready.
-    fn put_text(&mut self, id: u64, state: RowState<Text>)
+    fn put_text(&mut self, id: u64, state: RowState<SharedText>)
         requires { CanBePut self.old (Need.View id) (state_map text state) }
         ensures row { PutsRow (Need.View id) (state_map text state) self.old self.new }
         ensures right { IsRightBook self.new }

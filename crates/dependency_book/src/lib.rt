@@ -35,13 +35,13 @@ mod revise;
 mod room;
 mod row;
 mod rows;
+mod shared_text;
 mod shown;
-mod text;
 mod texts;
 
 pub use book::Book;
 pub use desk_events::{Mark, Need};
 pub use filled::Filled;
 pub use rows::ShownRows;
+pub use shared_text::SharedText;
 pub use shown::Shown;
-pub use text::Text;

@@ -6,7 +6,7 @@ ghost use Rattle.std.specs.Option.{option_map};
 ghost use Rattle.dependency_book.specs.ShownRows.{IsScratch, shown_rows};
 
 use crate::book::Book;
-use crate::text::Text;
+use crate::shared_text::SharedText;
 use crate::texts::TextRow;
 use schedule::Bookmark;
 use std::marker::Model;
@@ -41,14 +41,14 @@ impl Book<'_> {
 }
 
 impl<'a> Iterator for ShownRows<'a> {
-    type Item = (Bookmark, Option<&'a Text>);
+    type Item = (Bookmark, Option<&'a SharedText>);
 
     ghost next_gives = { YieldsFirstBy
         (λ row. (row.0, option_map (λ text. text.now) row.1)) (λ left. left) };
 
     ghost remaining = { item_count (λ left. left) };
 
-    fn next(&mut self) -> Option<(Bookmark, Option<&'a Text>)> {
+    fn next(&mut self) -> Option<(Bookmark, Option<&'a SharedText>)> {
         let (row, rest) = self.rows.split_first()?;
         self.rows = rest;
         Some((row.key, row.state.known()))

@@ -4,13 +4,13 @@ ghost use Rattle.dependency_book.specs.BookState.{is_pending};
 
 use crate::remade::Keeps;
 use crate::row::{Key, Row};
-use crate::text::Text;
+use crate::shared_text::SharedText;
 use desk_events::Mark;
 use edit_effects::leaves_after;
 use schedule::{Bookmark, Document};
 
 /// A bookmark with its text, or the job that is out for it.
-pub(crate) type TextRow = Row<Bookmark, Text>;
+pub(crate) type TextRow = Row<Bookmark, SharedText>;
 
 impl Key for Bookmark {
     ghost use Rattle.dependency_book.specs.Rows.{bookmark_rank};

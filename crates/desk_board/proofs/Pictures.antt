@@ -7,7 +7,7 @@ use Rattle.dependency_book.specs.BookState.{BookState}
 use Rattle.dependency_book.specs.ShownRows.{IsScratch, shown_row, shown_rows}
 use Rattle.desk_board.specs.declared.row.ShownRow.{ShownRow}
 use Rattle.desk_board.specs.Picture.{IsCurrent, IsRightPicture, Picture, bookmarks_of, picture, picture_of, row_of}
-use Rattle.desk_board.specs.History.{History, ShowsNext, and_then}
+use Rattle.desk_board.specs.BoardHistory.{BoardHistory, ShowsNext, and_then}
 
 same_bookmarks : (d : BookState) (bs : List Bookmark) → bookmarks_of (map row_of (map (shown_row d) bs)) ≡ bs
 same_bookmarks d [] = refl
@@ -27,6 +27,6 @@ whole_picture d p rows left same none is =
     ap₂ picture same all
 
 -- one snapshot of a desk is put behind a history
-pub shows_next : (old new : History) (s : Picture) (d : BookState) → s ≡ picture_of d → IsRightPicture s → new ≡ and_then old s
+pub shows_next : (old new : BoardHistory) (s : Picture) (d : BookState) → s ≡ picture_of d → IsRightPicture s → new ≡ and_then old s
     → ShowsNext old d new
 shows_next old new s d is right more = (subst IsRightPicture is right, more ∙ ap (and_then old) is)

@@ -1,5 +1,5 @@
 pub mod Picture
-pub mod History
+pub mod BoardHistory
 pub mod Log
 pub mod Copies
 pub mod Faults

@@ -1,7 +1,7 @@
 //! How a history goes on, and how a copy takes in what comes next.
 ghost use Rattle.std.specs.Prelude.{◌≡◌, IfOk, IfSome};
 ghost use Rattle.std.specs.Arc.{arc_value};
-ghost use Rattle.desk_board.specs.History.{EndsWith, and_then};
+ghost use Rattle.desk_board.specs.BoardHistory.{EndsWith, and_then};
 ghost use Rattle.desk_board.specs.Log.{head_of};
 
 use crate::history::Counter;

@@ -17,14 +17,14 @@ pub struct Latest {
 impl Model for Latest {
     ghost use Rattle.std.specs.Coded.{codes};
     ghost use Rattle.worlds.specs.World.{coded_world};
-    ghost use Rattle.desk_board.specs.History.{History};
+    ghost use Rattle.desk_board.specs.BoardHistory.{BoardHistory};
 
-    ghost Value = { History };
+    ghost Value = { BoardHistory };
 
     ghost coded = { Prim.hlevel (codes, coded_world) };
 
     ghost use Rattle.std.specs.Arc.{arc_value};
-    ghost use Rattle.desk_board.specs.History.{EndsWith};
+    ghost use Rattle.desk_board.specs.BoardHistory.{EndsWith};
 
     ghost view = { λ l. l.receipt };
 

@@ -33,7 +33,7 @@ mod snapshots;
 mod taking;
 mod viewer;
 
-pub use desk_core::Text;
+pub use desk_core::SharedText;
 pub use fault::{BoardFault, PublishFault};
 pub use opening::board;
 pub use publisher::Publisher;

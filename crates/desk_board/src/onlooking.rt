@@ -8,7 +8,7 @@ use std::sync::Wait;
 /// A snapshot of each desk that is looked at is published. It is seen unless that is refused. A
 /// look may wait for viewers.
 impl<R: Wait> Onlooker for Publisher<R> {
-    ghost use Rattle.desk_board.specs.History.{ShowsNext};
+    ghost use Rattle.desk_board.specs.BoardHistory.{ShowsNext};
 
     ghost sees = { ShowsNext };
 

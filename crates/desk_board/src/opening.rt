@@ -1,6 +1,6 @@
 //! How a board is opened.
 ghost use Rattle.std.specs.Prelude.{◌≡◌, ◌<◌, ◌≤◌, ◌∷◌, [], IfOk, All, vec_len};
-ghost use Rattle.desk_board.specs.History.{unseen};
+ghost use Rattle.desk_board.specs.BoardHistory.{unseen};
 ghost use Rattle.desk_board.specs.Copies.{Knows};
 
 use crate::fault::BoardFault;

@@ -1,6 +1,6 @@
 //! The one that publishes.
 ghost use Rattle.std.specs.Prelude.{◌≡◌, IfOk, OnErr};
-ghost use Rattle.desk_board.specs.History.{and_then};
+ghost use Rattle.desk_board.specs.BoardHistory.{and_then};
 ghost use Rattle.desk_board.specs.Copies.{GoesOn, Knows};
 
 use crate::fault::PublishFault;
@@ -29,9 +29,9 @@ pub struct Publisher<R: Wait> {
 impl<R: Wait> Model for Publisher<R> {
     ghost use Rattle.std.specs.Coded.{codes};
     ghost use Rattle.worlds.specs.World.{coded_world};
-    ghost use Rattle.desk_board.specs.History.{History};
+    ghost use Rattle.desk_board.specs.BoardHistory.{BoardHistory};
 
-    ghost Value = { History };
+    ghost Value = { BoardHistory };
 
     ghost coded = { Prim.hlevel (codes, coded_world) };
 

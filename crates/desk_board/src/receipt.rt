@@ -1,6 +1,6 @@
 //! What shows that snapshots were published.
 ghost use Rattle.std.specs.Prelude.{◌≡◌, [], length, IfSome, MatchBool};
-ghost use Rattle.desk_board.specs.History.{Begins, Precedes, and_then};
+ghost use Rattle.desk_board.specs.BoardHistory.{Begins, Precedes, and_then};
 ghost use Rattle.desk_board.specs.Log.{head_of};
 
 use crate::history::{Add, Counter, Fact, HistoryRule, Nothing};
@@ -19,14 +19,14 @@ pub struct Receipt {
 impl Model for Receipt {
     ghost use Rattle.std.specs.Coded.{codes};
     ghost use Rattle.worlds.specs.World.{coded_world};
-    ghost use Rattle.desk_board.specs.History.{History};
+    ghost use Rattle.desk_board.specs.BoardHistory.{BoardHistory};
 
-    ghost Value = { History };
+    ghost Value = { BoardHistory };
 
     ghost coded = { Prim.hlevel (codes, coded_world) };
 
     ghost use Rattle.std.specs.Prelude.{◌≡◌, length};
-    ghost use Rattle.desk_board.specs.History.{history};
+    ghost use Rattle.desk_board.specs.BoardHistory.{history};
 
     ghost view = { λ r. history r.fact.book r.fact.log };
 

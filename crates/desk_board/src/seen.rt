@@ -1,6 +1,6 @@
 //! A viewer while it looks.
 ghost use Rattle.std.specs.Prelude.{◌≡◌};
-ghost use Rattle.desk_board.specs.History.{EndsWith};
+ghost use Rattle.desk_board.specs.BoardHistory.{EndsWith};
 
 use crate::latest::Latest;
 use crate::receipt::Receipt;
@@ -19,9 +19,9 @@ pub struct Seen {
 impl Model for Seen {
     ghost use Rattle.std.specs.Coded.{codes};
     ghost use Rattle.worlds.specs.World.{coded_world};
-    ghost use Rattle.desk_board.specs.History.{History};
+    ghost use Rattle.desk_board.specs.BoardHistory.{BoardHistory};
 
-    ghost Value = { History };
+    ghost Value = { BoardHistory };
 
     ghost coded = { Prim.hlevel (codes, coded_world) };
 

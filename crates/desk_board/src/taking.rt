@@ -5,7 +5,7 @@ ghost use Rattle.desk_board.specs.Picture.{IsRightPicture, picture_of};
 
 use crate::row::ShownRow;
 use crate::snapshots::Snapshot;
-use desk_core::{Desk, Text};
+use desk_core::{Desk, SharedText};
 use std::alloc::{AllocError, Global};
 
 /// The desk's document as it is now, and a row for each bookmark with what the desk shows of it.
@@ -23,7 +23,7 @@ pub fn snapshot(alloc: Global, desk: &Desk<'_>) -> Result<Snapshot, AllocError>
 }
 
 // The text, if there is one, by one more owner of its bytes.
-fn shared(text: Option<&Text>) -> Result<Option<Text>, AllocError>
+fn shared(text: Option<&SharedText>) -> Result<Option<SharedText>, AllocError>
     ensures { IfOk result (λ shared. shared ≡ option_map (λ bytes. bytes.now) text.entry) }
 {
     match text {

@@ -1,6 +1,6 @@
 //! A viewer.
 ghost use Rattle.std.specs.Prelude.{◌≡◌, ◌⊎◌, IfOk, IfErr};
-ghost use Rattle.desk_board.specs.History.{Begins};
+ghost use Rattle.desk_board.specs.BoardHistory.{Begins};
 
 use crate::latest::Latest;
 use crate::receipt::Receipt;
@@ -20,9 +20,9 @@ pub struct Viewer {
 impl Model for Viewer {
     ghost use Rattle.std.specs.Coded.{codes};
     ghost use Rattle.worlds.specs.World.{coded_world};
-    ghost use Rattle.desk_board.specs.History.{History};
+    ghost use Rattle.desk_board.specs.BoardHistory.{BoardHistory};
 
-    ghost Value = { History };
+    ghost Value = { BoardHistory };
 
     ghost coded = { Prim.hlevel (codes, coded_world) };
 

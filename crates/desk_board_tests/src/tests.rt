@@ -3,7 +3,7 @@ mod desks;
 mod threads;
 
 ghost use Rattle.std.specs.Prelude.{◌≡◌, ◌<◌, ◌≤◌, All};
-ghost use Rattle.desk_board.specs.History.{unseen};
+ghost use Rattle.desk_board.specs.BoardHistory.{unseen};
 
 use basics::Refusal;
 use desk_board::{BoardFault, PublishFault, Publisher, Receipt, Snapshot, Viewer, board};

@@ -29,7 +29,7 @@ mod unsent;
 
 pub use cause::Cause;
 pub use collect::Collected;
-pub use dependency_book::{Shown, ShownRows, Text};
+pub use dependency_book::{SharedText, Shown, ShownRows};
 pub use desk::Desk;
 pub use feeding::feed;
 pub use issue::IssueFault;

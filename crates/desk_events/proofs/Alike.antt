@@ -1,6 +1,6 @@
 -- An edit that is felt nowhere leaves the patterns as they are.
 use Rattle.desk_events.proofs.Names.{Acts, AddBookmark, AddBranch, Asked, IsSound, IsUnfelt, IsUnfeltAt, IsUnfeltWhere, LayAlikeOn, LayAlikeWithin, Mark, MoveBookmark, None, Option, Plan, RemoveBookmark, RemoveBranch, ReplaceRule}
-use Rattle.desk_events.proofs.Names.{ReplaceStart, SetCells, Some, Touched, UnfeltTouch, World, acting, acts_on, after, and_parts, ap, arith, arrival, cells_of, changed, lay, mark_at, reach, refl, subst, sym, touched_by, true, ℕ, ◌&&◌}
+use Rattle.desk_events.proofs.Names.{ReplaceStart, SetCells, Some, Touched, UnfeltTouch, World, acting, acts_on, after, and_parts, ap, arith, arrival, cells_acting_at, changed, lay, mark_at, reach, refl, subst, sym, touched_by, true, ℕ, ◌&&◌}
 use Rattle.desk_events.proofs.Names.{◌==◌, ◌≡◌, ◌≤◌}
 use Rattle.desk_events.proofs.Shared.Gives.{Arrives}
 use Rattle.desk_events.proofs.Shared.Tests.{either_way, true_eq}
@@ -8,11 +8,11 @@ use Rattle.desk_events.proofs.Shared.Touching.{SameUntouched, untouched}
 
 -- the lists of two documents lay alike on what arrives in the first at a mark
 abbrev LaysAlike : Plan → Plan → Mark → Type 0
-LaysAlike p q m = after p m.branch m.generation ≡ lay (cells_of q.interventions m) (arrival p m.branch m.generation)
+LaysAlike p q m = after p m.branch m.generation ≡ lay (cells_acting_at q.interventions m) (arrival p m.branch m.generation)
 
 where_known : (p q : Plan) (m : Mark) (o : Option World)
-    → ((w : World) → o ≡ Some w → w ≡ arrival p m.branch m.generation) → LayAlikeOn o (cells_of p.interventions m)
-    (cells_of q.interventions m) → LaysAlike p q m
+    → ((w : World) → o ≡ Some w → w ≡ arrival p m.branch m.generation) → LayAlikeOn o (cells_acting_at p.interventions m)
+    (cells_acting_at q.interventions m) → LaysAlike p q m
 where_known p q m o arrives h = grind arith
 
 -- so they do where something acts, as far as its branch reaches, if it is unfelt there

@@ -4,7 +4,7 @@ use Rattle.desk_events.proofs.Names.{Some, Step, View, [], all_set_below, and_ri
 use Rattle.desk_events.proofs.Names.{nat_lt, not, opened_among, opening, refl, refusal, spent, steps, sym, unless_refused, views, ℕ, ◌&&◌, ◌<◌, ◌==◌, ◌∙◌, ◌∷◌, ◌≡◌}
 use Rattle.worlds.specs.Live.{as_live, live, live-entries}
 use Rattle.schedule.specs.declared.acts.Acts.TheVariants.{Once}
-use Rattle.schedule.specs.History.{is_felt}
+use Rattle.schedule.specs.Evolution.{is_felt}
 use Rattle.schedule.specs.Repeats.{has_too_many_marks}
 use Rattle.bookmarks.specs.declared.view.View.TheVariants.{Counts}
 use Rattle.desk_events.specs.Event.{after_edit as core_after_edit}

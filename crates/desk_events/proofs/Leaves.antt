@@ -4,7 +4,7 @@ use Rattle.desk_events.proofs.Names.{RemoveBookmark, RemoveBranch, ReplaceRule, 
 use Rattle.desk_events.proofs.Names.{bookmark_mark, branch_id, cells_at, changed, false, felt_from, first_refusal, first_touched, fork_of, from_touched, has_bookmarks, has_branch, has_id, is_in_use, is_mark, is_start, keeps_arrival, lay}
 use Rattle.desk_events.proofs.Names.{leaves_after, mark_at, name_of, nat_lt, nat_tests, not, or_from, parent_of, parents_before, refl, refusal, scratch, spent, states_of, suc, sym, text_of, touched_by, true, unused, without, zero, ℕ, ◌&&◌}
 use Rattle.desk_events.proofs.Names.{◌+◌, ◌<◌, ◌==◌, ◌∙◌, ◌∷◌, ◌≡◌, ◌≤◌}
-use Rattle.schedule.specs.History.{is_felt}
+use Rattle.schedule.specs.Evolution.{is_felt}
 use Rattle.schedule.proofs.Shared.Arrivals.{ParentsComeBefore}
 use Rattle.schedule.proofs.Shared.Felt.{felt-apart, felt-back, felt-here}
 use Rattle.desk_events.proofs.Shared.Marks.{mark_placed}

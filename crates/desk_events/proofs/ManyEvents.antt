@@ -4,7 +4,7 @@ use Rattle.desk_events.proofs.Names.{desk, echoes, inl, inr, issues, lay, loses_
 use Rattle.std.proofs.Common.{Bool, ap, cond, false, pos, sym, true}
 use Rattle.worlds.specs.World.{World, cell, cell-put, same_place, same_world}
 use Rattle.schedule.specs.declared.acts.Acts.TheVariants.{Every, Once}
-use Rattle.schedule.specs.History.{is_felt}
+use Rattle.schedule.specs.Evolution.{is_felt}
 use Rattle.schedule.specs.Repeats.{has_too_many_marks}
 use Rattle.bookmarks.specs.declared.view.View.TheVariants.{Counts}
 use Rattle.desk_events.specs.Configuration.{loses_job}

@@ -5,7 +5,7 @@ pub use Rattle.desk_events.specs.Configuration.{AnswersAfter, Configuration, Hap
 pub use Rattle.desk_events.specs.Core.{Answer, Core, Row, arrival_in, awaits, holds, nothing, opened, opened_row, shown, shown_for, world_in}
 pub use Rattle.desk_events.specs.Entry.{AreSameSteps, Entry, Stepping, Viewing, start_of, steps, value, views, world_after, world_seen}
 pub use Rattle.desk_events.specs.Event.{CanEdit, CanHappen, CanIssue, CanRecall, Event, IsTrueAnswer, MayBeAsked, after_edit, after_event, answered, cancelled, cancels, collects, edits, given_by, issues, kept_row, recalls}
-pub use Rattle.desk_events.specs.Felt.{IsFelt, IsUnfelt, IsUnfeltAt, IsUnfeltWhere, LayAlikeOn, UnfeltTouch, added, cells_of, felt_from, first_touched, from_touched, moved, removed, touched_by}
+pub use Rattle.desk_events.specs.Felt.{IsFelt, IsUnfelt, IsUnfeltAt, IsUnfeltWhere, LayAlikeOn, UnfeltTouch, added, cells_acting_at, felt_from, first_touched, from_touched, moved, removed, touched_by}
 pub use Rattle.desk_events.specs.Kept.{keeps, keeps_arrival, keeps_bookmark, keeps_text, leaves_after, stays_mark, takes}
 pub use Rattle.desk_events.specs.Law.{AreCalls, CallsAreEvents, IsCall, IsTrue, Recalled, Recalls, ShowsOnlyScratch, StaysRight, recall}
 pub use Rattle.desk_events.specs.Marks.{BeginsFrom, ComesBefore, Precedes, acts_within, bookmark_mark, forks_at, is_mark, is_same, is_start, mark_at, stands_at}

@@ -65,13 +65,13 @@ LayAlikeOn None old new = ⊥
 LayAlikeOn (Some w) old new = lay old w ≡ lay new w
 
 -- the cells that interventions set at a mark, by rising id
-abbrev pub cells_of : List Intervention → Mark → List CellSet
-cells_of is m = cells_at is m.branch m.generation
+abbrev pub cells_acting_at : List Intervention → Mark → List CellSet
+cells_acting_at is m = cells_at is m.branch m.generation
 
 -- what arrives at a mark is known, and the interventions of two documents lay on it to equal worlds
 abbrev pub IsUnfeltAt : (Mark → Option World) → Plan → Plan → Mark → Type 0
 IsUnfeltAt known p q m =
-    LayAlikeOn (known m) (cells_of p.interventions m) (cells_of q.interventions m)
+    LayAlikeOn (known m) (cells_acting_at p.interventions m) (cells_acting_at q.interventions m)
 
 -- so it is at each mark at which something acts in a branch, as far as the branch reaches
 abbrev pub IsUnfeltWhere : (Mark → Option World) → Plan → Plan → ℕ → Acts → Type 0

@@ -2,7 +2,7 @@
 use Rattle.std.specs.Prelude.{Bool, true, false, not, ◌&&◌, nat_lt, List, Option, None, Some, if◌then◌else◌, ◌==◌}
 use Rattle.schedule.specs.declared.document.Bookmark.{Bookmark}
 use Rattle.schedule.specs.declared.branch.Branch.{Branch}
-use Rattle.schedule.specs.History.{is_felt}
+use Rattle.schedule.specs.Evolution.{is_felt}
 use Rattle.schedule.specs.Plan.{Plan}
 use Rattle.schedule.specs.Asked.{Asked, MoveBookmark, RemoveBookmark}
 use Rattle.desk_events.specs.declared.mark.Mark.{Mark}

@@ -6,7 +6,7 @@ ghost use Rattle.desk_program.specs.Start.{Answers, AreOpenable};
 
 use crate::ending::Ending;
 use crate::progress::Screen;
-use crate::shown::{Board, ScreenBell};
+use crate::shown::{Board, ScreenListener};
 use desk_server::{CountedReader, CountedWriter, Entries, Post, RunFault, run, run_seen};
 use desk_words::Facts;
 use std::alloc::Global;
@@ -50,9 +50,17 @@ fn run_shown<T: Wait + Clock + Eprint, R: Read, W: Write, L: Ledger, M: Ledger, 
     let Some(glimpses) = board else {
         return run(rt, alloc, entries, facts, reader, writer, post);
     };
-    let mut bell = ScreenBell { rt, screen };
+    let mut listener = ScreenListener { rt, screen };
     match run_seen(
-        rt, alloc, entries, facts, reader, writer, post, glimpses, &mut bell,
+        rt,
+        alloc,
+        entries,
+        facts,
+        reader,
+        writer,
+        post,
+        glimpses,
+        &mut listener,
     ) {
         Ok(_) => Ok(()),
         Err(fault) => Err(fault),

@@ -1,7 +1,7 @@
 //! How a run shows its progress.
 
 use crate::progress::{Glimpses, Screen};
-use desk_server::Bell;
+use desk_server::Listener;
 use std::sync::Wait;
 use std::time::Clock;
 
@@ -20,12 +20,12 @@ pub(crate) fn end<T: Wait + Clock>(board: Board<'_, '_, T>) {
 
 /// Tells a screen of the settlings of a run.
 #[derive(Drop)]
-pub(crate) struct ScreenBell<'r, 's, T: Wait + Clock + Eprint> {
+pub(crate) struct ScreenListener<'r, 's, T: Wait + Clock + Eprint> {
     pub(crate) rt: &'r T,
     pub(crate) screen: &'s Screen,
 }
 
-impl<T: Wait + Clock + Eprint> Bell for ScreenBell<'_, '_, T> {
+impl<T: Wait + Clock + Eprint> Listener for ScreenListener<'_, '_, T> {
     fn waits(&mut self) {
         self.screen.begin(self.rt);
     }

@@ -1,7 +1,7 @@
 -- The names that the proofs of this crate cite most, passed on from one place. It declares nothing.
 pub use Rattle.bookmarks.specs.declared.view.View.{View}
 pub use Rattle.desk_script.specs.Asks.{Ask, Between, InText, LinePlace, Obey, Refuse, Take, asked_at, asked_by, asks, place_behind, without_end}
-pub use Rattle.desk_script.specs.Command.{acting_of, adds_branch, before, cell_of, cells_of, cells_set, change_of, command_by, command_of, command_of_words, count_of, counted, edit_by, edit_in_branch, edit_in_named}
+pub use Rattle.desk_script.specs.Command.{acting_of, adds_branch, before, cell_of, cells_said, cells_set, change_of, command_by, command_of, command_of_words, count_of, counted, edit_by, edit_in_branch, edit_in_named}
 pub use Rattle.desk_script.specs.Command.{format_of, format_of_words, further_edit_by, inserted, looking_by, on_of, once_by, once_of, one_count, repeated_by, repeated_of, some_cells, start_of}
 pub use Rattle.desk_script.specs.Heard.{BreaksOff, CanLackMemory, Hears, IsReadAs, LineCanLackMemory}
 pub use Rattle.desk_script.specs.Listed.{branch_line, intervention_line}
@@ -11,7 +11,7 @@ pub use Rattle.desk_script.specs.Scripted.{cell_words, edit_line, edit_lines, ru
 pub use Rattle.desk_script.specs.View.{alone, view_of}
 pub use Rattle.desk_script.specs.declared.command.Command.{Command}
 pub use Rattle.desk_script.specs.declared.format.Format.{Format}
-pub use Rattle.document_replay.specs.Replay.{add_all, add_bookmark, add_branch, add_intervention, ids_between, skip_bookmark, skip_branch, skip_intervention}
+pub use Rattle.replay_laws.specs.Replay.{add_all, add_bookmark, add_branch, add_intervention, ids_between, skip_bookmark, skip_branch, skip_intervention}
 pub use Rattle.schedule.specs.Asked.{AddBookmark, AddBranch, Asked, Change, Insert, RemoveBookmark, RemoveBranch, RemoveIntervention, ReplaceRule, asked_of}
 pub use Rattle.schedule.specs.Ids.{bookmark_id, branch_id, intervention_id}
 pub use Rattle.schedule.specs.declared.acts.Acts.TheVariants.{Every, Once}

@@ -33,11 +33,11 @@ before (Some c) None = None
 before None cells = None
 
 -- the cells that words name, three words each
-abbrev pub cells_of : List (List ℕ) → Option (List CellSet)
-cells_of [] = Some []
-cells_of (x ∷ []) = None
-cells_of (x ∷ y ∷ []) = None
-cells_of (x ∷ y ∷ s ∷ rest) = before (cell_of x y s) (cells_of rest)
+abbrev pub cells_said : List (List ℕ) → Option (List CellSet)
+cells_said [] = Some []
+cells_said (x ∷ []) = None
+cells_said (x ∷ y ∷ []) = None
+cells_said (x ∷ y ∷ s ∷ rest) = before (cell_of x y s) (cells_said rest)
 
 -- one cell or more
 abbrev pub some_cells : Option (List CellSet) → Option (List CellSet)
@@ -48,7 +48,7 @@ some_cells (Some (c ∷ cells)) = Some (c ∷ cells)
 -- the cells behind the word `set`
 abbrev pub cells_set : List (List ℕ) → Option (List CellSet)
 cells_set [] = None
-cells_set (word ∷ rest) = if bytes_eq word (codes "set") then some_cells (cells_of rest) else None
+cells_set (word ∷ rest) = if bytes_eq word (codes "set") then some_cells (cells_said rest) else None
 
 -- an id or a generation
 abbrev pub count_of : List ℕ → Option ℕ
@@ -66,7 +66,7 @@ counted named (word ∷ rest) = option_zip (count_of word) (named rest)
 
 -- the edit of each first word, by the words behind it
 abbrev pub set_of : List (List ℕ) → Option Edit
-set_of rest = option_map SetCells (some_cells (cells_of rest))
+set_of rest = option_map SetCells (some_cells (cells_said rest))
 
 -- an intervention that acts once: a generation, and cells
 abbrev pub once_by : ℕ × List CellSet → Acting

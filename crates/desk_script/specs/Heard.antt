@@ -5,7 +5,7 @@ use Rattle.script_lines.specs.Ahead.{Ahead, TakesBytes, LineReading, IsDrawn}
 use Rattle.script_lines.specs.Input.{FailsOrFull}
 use Rattle.text_lines.specs.Lines.{End, Broken, lines_until}
 use Rattle.script_lines.specs.Script.{MayFollow}
-use Rattle.script_lines.specs.Text.{IsText}
+use Rattle.script_lines.specs.KeptText.{IsText}
 use Rattle.desk_script.specs.Asks.{Ask, Obey, Take, Refuse, asks, asked_by, LinePlace, Between}
 use Rattle.desk_script.specs.declared.command.Command.{Command}
 use Rattle.desk_script.specs.declared.request.Request.{Request}

@@ -10,7 +10,7 @@ use Rattle.worlds.specs.declared.cell.CellSet.{CellSet}
 use Rattle.multistate_macrocell.specs.PatternText.{macrocell_text}
 use Rattle.rule_tree.specs.Rule.{name_of}
 use Rattle.schedule.specs.Asked.{Asked, AddBookmark, AddBranch, Insert, RemoveBookmark, RemoveBranch, RemoveIntervention}
-use Rattle.document_replay.specs.Replay.{row_edits}
+use Rattle.replay_laws.specs.Replay.{row_edits}
 
 -- when an intervention acts: once, or at a distance from a first generation to a last one
 abbrev pub acts_words : Acts → List ℕ

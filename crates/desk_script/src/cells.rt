@@ -2,7 +2,7 @@
 ghost use Rattle.std.specs.Prelude.{◌≡◌, IfOk};
 ghost use Rattle.std.specs.Option.{option_map};
 ghost use Rattle.script_lines.specs.Words.{words};
-ghost use Rattle.desk_script.specs.Command.{cells_of, some_cells, cells_set};
+ghost use Rattle.desk_script.specs.Command.{cells_said, some_cells, cells_set};
 ghost use Rattle.desk_script.specs.Cells.{NextCell};
 
 use schedule::{CellSet, Listing};
@@ -50,7 +50,7 @@ fn next_cell(bytes: &[u8]) -> CellFound<'_>
 // The cells that the words name, or None where they name something else.
 fn read_cells(alloc: Global, bytes: &[u8]) -> Result<Option<Vec<CellSet>>, AllocError>
     ensures { IfOk result (λ cells.
-        option_map (λ v. v.items) cells ≡ cells_of (words bytes.now)) }
+        option_map (λ v. v.items) cells ≡ cells_said (words bytes.now)) }
 {
     let mut cells = Vec::new(alloc);
     let mut rest = bytes;
@@ -71,7 +71,7 @@ pub(crate) fn some_cells(
     alloc: Global,
     bytes: &[u8],
 ) -> Result<Option<Listing<CellSet>>, AllocError>
-    ensures { IfOk result (λ cells. cells ≡ some_cells (cells_of (words bytes.now))) }
+    ensures { IfOk result (λ cells. cells ≡ some_cells (cells_said (words bytes.now))) }
 {
     match read_cells(alloc, bytes)? {
         None => Ok(None),

@@ -10,7 +10,7 @@ use crate::command::read_command;
 use crate::fault::ScriptFault;
 use crate::format::{Format, read_format};
 use crate::request::Request;
-use script_lines::{CountedReader, Failed, Found, KeptLine, TextFound};
+use script_lines::{CountedReader, Failed, KeptLine, LineFound, TextFound};
 use std::alloc::Global;
 use std::io::Read;
 use std::sync::ledger::Ledger;
@@ -124,9 +124,9 @@ pub fn listen<R: Read, L: Ledger>(
     ensures failed { OnErr result (ReadFails R.remaining reader.old reader.new) }
 {
     match reader.next_line(line)? {
-        Found::Line => listen_line(alloc, reader, line, false),
-        Found::Last => listen_line(alloc, reader, line, true),
-        Found::End => Ok(Heard {
+        LineFound::Line => listen_line(alloc, reader, line, false),
+        LineFound::Last => listen_line(alloc, reader, line, true),
+        LineFound::End => Ok(Heard {
             request: None,
             last: true,
         }),

@@ -1,14 +1,14 @@
 //! The text of the document's rule.
 ghost use Rattle.std.specs.Prelude.{◌≡◌, None, Some, MatchOption};
 
-use script_lines::Text;
+use script_lines::KeptText;
 use std::marker::Model;
 
 /// The text of the rule that was taken last, or nothing where none was: then the document has the
 /// rule of the opening one.
 #[derive(Drop)]
 pub struct RuleText {
-    text: Option<Text>,
+    text: Option<KeptText>,
 }
 
 impl Model for RuleText {
@@ -39,7 +39,7 @@ impl RuleText {
     }
 
     /// The text is that of a rule that was taken.
-    pub fn keep(&mut self, text: Text)
+    pub fn keep(&mut self, text: KeptText)
         ensures { self.new ≡ text }
     {
         self.text = Some(text);

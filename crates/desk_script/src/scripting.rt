@@ -3,9 +3,9 @@
 //! Each branch, bookmark and intervention gets its own id again: for an id that none has any more
 //! one is added and removed.
 ghost use Rattle.std.specs.Prelude.{◌≡◌, ◌++◌, IfOk, OnOk, flat_map, codes, decimal};
-ghost use Rattle.document_replay.specs.Replay.{add_all, ids_between};
-ghost use Rattle.document_replay.specs.Replay.{add_bookmark, add_branch, add_intervention};
-ghost use Rattle.document_replay.specs.Replay.{skip_bookmark, skip_branch, skip_intervention};
+ghost use Rattle.replay_laws.specs.Replay.{add_all, ids_between};
+ghost use Rattle.replay_laws.specs.Replay.{add_bookmark, add_branch, add_intervention};
+ghost use Rattle.replay_laws.specs.Replay.{skip_bookmark, skip_branch, skip_intervention};
 ghost use Rattle.schedule.specs.Ids.{bookmark_id, branch_id, intervention_id};
 ghost use Rattle.desk_script.specs.Scripted.{acts_words, view_words, cell_words, edit_line};
 ghost use Rattle.desk_script.specs.Scripted.{edit_lines, rule_lines, script_text, skip_lines};

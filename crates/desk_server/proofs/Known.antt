@@ -7,8 +7,8 @@ use Rattle.dependency_book.specs.Rows.{TextRow, keys, state_at, bookmark_rank}
 
 -- where no text of rows is pending, that of each of their bookmarks is found
 
-abbrev IsFound : List TextRow → Bookmark → Type 0
-IsFound rows b = IsSome (known (state_at bookmark_rank b.id rows))
+abbrev IsTextKnown : List TextRow → Bookmark → Type 0
+IsTextKnown rows b = IsSome (known (state_at bookmark_rank b.id rows))
 
 abbrev one_if : Bool → ℕ
 one_if b = cond b 1 0
@@ -17,14 +17,14 @@ if_known : (b : Bool) → one_if (not b) ≡ 0 → b ≡ true
 if_known b e = grind (arith)
 
 each_later : (r : TextRow) (rs : List TextRow) (bs : List Bookmark) → is_known r.state ≡ true
-    → AllByRecursion (IsFound rs) bs → AllByRecursion (IsFound (r ∷ rs)) bs
+    → AllByRecursion (IsTextKnown rs) bs → AllByRecursion (IsTextKnown (r ∷ rs)) bs
 each_later r rs [] here found = tt
 each_later r rs (b ∷ bs) here found = grind (arith, each_later r rs bs)
 
-found_here : (r : TextRow) (rs : List TextRow) → is_known r.state ≡ true → IsFound (r ∷ rs) r.key
+found_here : (r : TextRow) (rs : List TextRow) → is_known r.state ≡ true → IsTextKnown (r ∷ rs) r.key
 found_here r rs here = grind (arith, cond-true, nat_tests)
 
-each_found : (rows : List TextRow) → count_by is_pending rows ≡ 0 → AllByRecursion (IsFound rows) (keys rows)
+each_found : (rows : List TextRow) → count_by is_pending rows ≡ 0 → AllByRecursion (IsTextKnown rows) (keys rows)
 each_found [] none = tt
 each_found (r ∷ rs) none =
     let counted : count_by is_pending (r ∷ rs) ≡ one_if (is_pending r) + count_by is_pending rs =
@@ -32,11 +32,11 @@ each_found (r ∷ rs) none =
     let here : is_known r.state ≡ true = if_known (is_known r.state) (omega (arith, counted, none)) in
     (found_here r rs here, each_later r rs (keys rs) here (each_found rs (omega (arith, counted, none))))
 
-each_text : (d : BookState) (bs : List Bookmark) → AllByRecursion (IsFound d.texts) bs
+each_text : (d : BookState) (bs : List Bookmark) → AllByRecursion (IsTextKnown d.texts) bs
     → AllByRecursion (λ (row : Bookmark × Option (List ℕ)). IsSome row.1) (map (shown_row d) bs)
 each_text d [] found = tt
 each_text d (b ∷ bs) found = (found.0, each_text d bs found.1)
 
 pub all_known : (d : BookState) → IsRightBook d → pending_of d ≡ 0 → AllKnown d
 all_known d right none =
-    each_text d d.plan.bookmarks (subst (AllByRecursion (IsFound d.texts)) right.bookmarks (each_found d.texts none))
+    each_text d d.plan.bookmarks (subst (AllByRecursion (IsTextKnown d.texts)) right.bookmarks (each_found d.texts none))

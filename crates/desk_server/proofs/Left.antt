@@ -1,7 +1,7 @@
 -- The desks that commands leave.
 use Rattle.desk_server.proofs.Names.{Ask, Asked, BookState, CanLackMemory, Command, Format, IsLeftBy, IsReadAs, List, MeansEdit, Obey, Option, Request, RevisedOrSame, ScriptFault, Some}
-use Rattle.desk_server.proofs.Names.{TakenOrSame, Text, arith, inl, inr, subst, ℕ, ◌≡◌}
-use Rattle.script_lines.specs.Text.{IsText}
+use Rattle.desk_server.proofs.Names.{TakenOrSame, KeptText, arith, inl, inr, subst, ℕ, ◌≡◌}
+use Rattle.script_lines.specs.KeptText.{IsText}
 use Rattle.desk_script.specs.declared.request.Request.TheVariants as request
 
 -- the edit that a text means was made or refused
@@ -23,7 +23,7 @@ pub left_obeyed : (asked : Request) (command : Command) (old new : BookState) �
     → IsLeftBy (Obey command) old new → (ask : Ask) → IsReadAs asked ask → IsLeftBy ask old new
 left_obeyed asked command old new is left ask asks = grind (arith)
 
-pub left_taken : (asked : Request) (format : Format) (text : Text) (old new : BookState)
+pub left_taken : (asked : Request) (format : Format) (text : KeptText) (old new : BookState)
     → asked ≡ request.Take format text → ((bytes : List ℕ) → IsText text bytes → TakenOrSame format bytes old new)
     → (ask : Ask) → IsReadAs asked ask → IsLeftBy ask old new
 left_taken asked format text old new is left ask asks = grind (arith)

@@ -37,7 +37,7 @@ pub use Rattle.schedule.specs.declared.fault.EditFault.TheVariants.{NoMemory}
 pub use Rattle.schedule.specs.declared.fault.EditFault.{EditFault}
 pub use Rattle.script_lines.proofs.Shared.Told.{IsUnderWay, front_first, front_then, wrote_err, wrote_is_err, wrote_is_ok}
 pub use Rattle.script_lines.specs.Faults.{AppendsFront, Wrote}
-pub use Rattle.script_lines.specs.declared.text.Text.{Text}
+pub use Rattle.script_lines.specs.declared.kept_text.KeptText.{KeptText}
 pub use Rattle.std.proofs.Common.{Bool, Err, IfNone, IfSome, IsSome, List, None, Ok, Option, Result, Some, [], ap, append-nil, append_assoc, arith, codes, cond, count_by, decimal, false, flat_map, inl, inr, is_some, length, map, not, refl}
 pub use Rattle.std.proofs.Common.{rules, subst, sym, true, zip, ℕ, ◌++◌, ◌+◌, ◌-◌, ◌<◌, ◌==◌, ◌^◌, ◌∙◌, ◌∷◌, ◌≡◌, ◌≢◌, ◌≤◌, ◌⊎◌}
 pub use Rattle.std.proofs.lemmas.Bool.{cond-true}

@@ -1,6 +1,6 @@
 -- What is noted of one part of a run after the other.
 use Rattle.desk_server.proofs.Names.{After, Answered, Ask, AsksForAnswers, BookState, Command, Draws, Format, HasToCompute, IsReadAs, IsRefused, JobResult, List, Moment, NotesEach, Obey, PostView, PublishedOrCounted, Reply, Request}
-use Rattle.desk_server.proofs.Names.{AnswersAtDesks, AnswersAtEach, Bool, IsLeftBy, ScriptFault, TellsPending, Text, WatchesNext, WatchesReply, [], ap, append-nil, arith, but_bye, cond, ends, false, moment, opening, refl}
+use Rattle.desk_server.proofs.Names.{AnswersAtDesks, AnswersAtEach, Bool, IsLeftBy, ScriptFault, TellsPending, KeptText, WatchesNext, WatchesReply, [], ap, append-nil, arith, but_bye, cond, ends, false, moment, opening, refl}
 use Rattle.desk_server.proofs.Names.{reply_text, subst, sym, true, ℕ, ◌++◌, ◌∙◌, ◌∷◌, ◌≡◌}
 use Rattle.dependency_book.specs.Right.{IsRightBook}
 use Rattle.desk_core.specs.Looks.{LooksOn}
@@ -68,7 +68,7 @@ module _ {V : Type 0} (notes : V → BookState → V → Type 0) where
       → (ask : Ask) → IsReadAs asked ask → WatchesReply notes ask r p q d e a b
   looked_obeyed asked command r p q d e a b is looked ask asks = grind (arith)
 
-  pub looked_taken : (asked : Request) (format : Format) (text : Text) (r : Reply) (p : PostView) (d e : BookState)
+  pub looked_taken : (asked : Request) (format : Format) (text : KeptText) (r : Reply) (p : PostView) (d e : BookState)
       (a : V) → asked ≡ request.Take format text
       → (ask : Ask) → IsReadAs asked ask → WatchesReply notes ask r p p d e a a
   looked_taken asked format text r p d e a is ask asks = grind (arith, draws_none, unwatched)

@@ -1,7 +1,7 @@
 -- What the desk's answers are by the definition of the replies.
 use Rattle.desk_server.proofs.Names.{After, AnswersRequest, Ask, Asked, BookState, Bookmark, Bool, CanLackMemory, Cause, Changed, Command, Current, EditFault, Edited, Err, Fault, Format, GivesAnswer, GivesAnswerBy, IfNone, IfSome}
 use Rattle.desk_server.proofs.Names.{IsReadAs, IsShortOf, IsSome, KeepsTaken, KeepsText, Known, List, MayWant, Memory, NoMemory, NoShortage, NoSuch, None, Option, Pending, Plan, PollsBy, PostView, Refuse, Reply, Request, Result}
-use Rattle.desk_server.proofs.Names.{ScriptFault, Session, Shortage, Some, Still, TakesBytes, TakesText, Text, Unread, Unsettled, accepted, answer, answer_to_text, ap, arith, changed, cond, edited_as, ends, false, inl, inr, kept_text, length}
+use Rattle.desk_server.proofs.Names.{ScriptFault, Session, Shortage, Some, Still, TakesBytes, TakesText, KeptText, Unread, Unsettled, accepted, answer, answer_to_text, ap, arith, changed, cond, edited_as, ends, false, inl, inr, kept_text, length}
 use Rattle.desk_server.proofs.Names.{nat_tests, no_memory, not, of_edit, of_script, only, pending_of, pending_text, polled, refusal, refused, refused_text, reply_text, session, settled, shown_id, shown_text, subst, taken, text_known, true}
 use Rattle.desk_server.proofs.Names.{unless_fault, unless_memory, unless_refused, unless_unread, ℕ, ◌==◌, ◌∙◌, ◌≡◌, ◌≢◌, ◌≤◌, ◌⊎◌}
 use Rattle.desk_server.proofs.Names.{Ok, ReplaceRule, edited, of_macrocell, of_pattern, of_rule, refl, started, sym}
@@ -18,7 +18,7 @@ use Rattle.multistate_macrocell.specs.Pattern as macrocells
 use Rattle.desk_script.specs.declared.format.Format.TheVariants as format
 use Rattle.desk_core.specs.Edited.{Refuses}
 use Rattle.desk_server.specs.Shortage.{IsCausedOver}
-use Rattle.script_lines.specs.Text.{IsText}
+use Rattle.script_lines.specs.KeptText.{IsText}
 use Rattle.desk_events.specs.Wanted.{bookmark_in}
 use Rattle.dependency_book.specs.Shown.{IsPending, Shows}
 use Rattle.dependency_book.specs.declared.shown.Shown.{Shown}
@@ -222,7 +222,7 @@ answers-text prompt format (Some text) bytes r old new says takes =
     subst (λ v. GivesAnswerBy prompt (λ short. answer_to_text short old.plan format v) r new) says
     (takes.0, caused-of prompt format text takes.0 takes.1, takes.2)
 
-pub serves_taken : (prompt : Bool) (asked : Request) (format : Format) (text : Text) (r : Reply)
+pub serves_taken : (prompt : Bool) (asked : Request) (format : Format) (text : KeptText) (r : Reply)
     (old new : BookState)
     (rule : Option (List ℕ)) → asked ≡ request.Take format text → TakesText format text r old new
     → AnswersRequest prompt asked r (session old rule) new
@@ -237,7 +237,7 @@ kept-rule : (b is_taken : Bool) (text : Option (List ℕ)) (bytes : List ℕ) (r
     → cond is_taken text rule ≡ cond b rule (Some bytes)
 kept-rule b is_taken text bytes rule is some says = grind (arith)
 
-pub kept-taken : (format : Format) (text : Text) (old new : BookState) (rule kept : Option (List ℕ)) (is_taken : Bool)
+pub kept-taken : (format : Format) (text : KeptText) (old new : BookState) (rule kept : Option (List ℕ)) (is_taken : Bool)
     → is_taken ≡ not (new.plan.revision == old.plan.revision) → (text ≡ None → new.plan ≡ old.plan)
     → kept ≡ kept_text format is_taken text rule → KeepsTaken format text (session old rule) new kept
 kept-taken format text old new rule kept is_taken is none keeps = grind (arith, kept-rule, nat_tests)
@@ -251,7 +251,7 @@ pub keeps_obeyed : (asked : Request) (command : Command) (s : Session) (d : Book
     → asked ≡ request.Obey command → KeepsText asked s d s.rule_text
 keeps_obeyed asked command s d e = grind (arith)
 
-pub keeps_taken : (asked : Request) (format : Format) (text : Text) (s : Session) (d : BookState)
+pub keeps_taken : (asked : Request) (format : Format) (text : KeptText) (s : Session) (d : BookState)
     (rule : Option (List ℕ)) → asked ≡ request.Take format text → KeepsTaken format text s d rule
     → KeepsText asked s d rule
 keeps_taken asked format text s d rule e keeps = grind (arith)

@@ -3,7 +3,7 @@ use Rattle.std.specs.Prelude.{◌≡◌, ℕ, List, [], ◌∷◌, Bool, if◌th
 use Rattle.rule_file.specs.RuleFile.{file_of}
 use Rattle.multistate_rle.specs.Pattern as rle
 use Rattle.multistate_macrocell.specs.Pattern as macrocells
-use Rattle.script_lines.specs.Text.{IsText}
+use Rattle.script_lines.specs.KeptText.{IsText}
 use Rattle.schedule.specs.Plan.{Plan}
 use Rattle.dependency_book.specs.BookState.{BookState}
 use Rattle.desk_script.specs.Asks.{Ask, Take}

@@ -8,7 +8,7 @@
 //!
 //! `run_seen` does the same while somebody looks on at the desk: after each reply but `bye`, and
 //! before it after each answer that a settling collected. A board's publisher looks on by publishing
-//! a snapshot. A bell is told when a settling waits.
+//! a snapshot. A listener is told when a settling waits.
 //!
 //! What isn't known is computed by jobs over a post, which the caller opens beside the table of
 //! entries that the jobs are of.
@@ -17,14 +17,14 @@
 //! else is in proportion to what is read and written.
 #![tactic(auto)]
 
-mod bell;
+mod listener;
 mod listing;
 mod reply;
 mod serve;
 mod server;
 mod watch;
 
-pub use bell::Bell;
 pub use desk_core::{Entries, InlinePost, Onlooker, Post};
+pub use listener::Listener;
 pub use script_lines::{CountedReader, CountedWriter};
 pub use server::{RunFault, run, run_seen};

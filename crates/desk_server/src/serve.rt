@@ -8,7 +8,7 @@ ghost use Rattle.dependency_book.specs.Shown.{IsPending};
 ghost use Rattle.desk_core.specs.Looks.{LooksOn};
 ghost use Rattle.desk_script.specs.Asks.{Ask, Obey};
 ghost use Rattle.desk_script.specs.Heard.{IsReadAs};
-ghost use Rattle.script_lines.specs.Text.{IsText};
+ghost use Rattle.script_lines.specs.KeptText.{IsText};
 ghost use Rattle.desk_server.specs.Answer.{edited, id_word, listed, obeyed, only};
 ghost use Rattle.desk_server.specs.Answer.{polled, scripted, settled, shown_id, started, unless_unread};
 ghost use Rattle.desk_server.specs.Served.{GivesAnswerBy, KeepsText, AnswersRequest, KeepsTaken};
@@ -21,7 +21,7 @@ ghost use Rattle.desk_server.specs.Desks.{IsLeftBy, Learned, RevisedOrSame, Take
 ghost use Rattle.desk_server.specs.Told.{LeavesOver, PollsBy, TakesAnswers, TellsPending, ends};
 ghost use Rattle.desk_server.specs.Watch.{WatchesReply};
 
-use crate::bell::Bell;
+use crate::listener::Listener;
 use crate::reply::{Reply, refused};
 use desk_core::{
     Cause, Desk, Edit, EditFault, Onlooker, Plane, Polled, Post, Rule, Settling, Shown, settle_seen,
@@ -30,7 +30,7 @@ use desk_script::{Command, Format, Request, RuleText, script_of};
 use multistate_macrocell::read_mc;
 use multistate_rle::read_rle;
 use plane_core::Loaded;
-use script_lines::Text;
+use script_lines::KeptText;
 use std::alloc::Global;
 use std::sync::{Arc, Wait};
 
@@ -159,7 +159,7 @@ fn take(alloc: Global, desk: &mut Desk<'_>, format: Format, text: &[u8]) -> Repl
 }
 
 // Takes what a text means, unless memory ran out for it.
-fn take_kept(alloc: Global, desk: &mut Desk<'_>, format: Format, text: &Text) -> Reply
+fn take_kept(alloc: Global, desk: &mut Desk<'_>, format: Format, text: &KeptText) -> Reply
     ensures answer { TakesText format text.now result desk.old desk.new }
     ensures same { text.now ≡ None → desk.new.plan ≡ desk.old.plan }
     ensures left { (bytes : List ℕ) → IsText text.now bytes
@@ -174,7 +174,7 @@ fn take_kept(alloc: Global, desk: &mut Desk<'_>, format: Format, text: &Text) ->
 }
 
 // Keeps the text of a rule that was taken.
-fn keep(rule: &mut RuleText, format: Format, text: Text, is_taken: bool)
+fn keep(rule: &mut RuleText, format: Format, text: KeptText, is_taken: bool)
     ensures { rule.new ≡ kept_text format is_taken text rule.old }
 {
     if format == Format::Rule && is_taken {
@@ -188,7 +188,7 @@ fn take_text(
     desk: &mut Desk<'_>,
     rule: &mut RuleText,
     format: Format,
-    text: Text,
+    text: KeptText,
 ) -> Reply
     ensures answer { TakesText format text result desk.old desk.new }
     ensures kept { KeepsTaken format text (session desk.old rule.old) desk.new rule.new }
@@ -254,7 +254,7 @@ fn settle<P: Post, O: Onlooker>(
     desk: &mut Desk<'_>,
     post: &mut P,
     onlooker: &mut O,
-    bell: &mut impl Bell,
+    listener: &mut impl Listener,
 ) -> Reply
     requires { PostMatchesDesk (P.view post.old) desk.old }
     ensures answer { GivesAnswerBy (P.view post.old).is_prompt (λ short. settled short desk.old.plan)
@@ -266,9 +266,9 @@ fn settle<P: Post, O: Onlooker>(
     ensures looked { WatchesReply O.sees (Obey Command.Settle) result (P.view post.old)
         (P.view post.new) desk.old desk.new onlooker.old onlooker.new }
 {
-    bell.waits();
+    listener.waits();
     let cause = compute(rt, desk, post, onlooker);
-    bell.is_done();
+    listener.is_done();
     match desk.pending() {
         0 => Reply::Settled,
         pending => Reply::Unsettled { pending, cause },
@@ -298,7 +298,7 @@ fn show<P: Post, O: Onlooker>(
     post: &mut P,
     id: u64,
     onlooker: &mut O,
-    bell: &mut impl Bell,
+    listener: &mut impl Listener,
 ) -> Reply
     requires { PostMatchesDesk (P.view post.old) desk.old }
     ensures answer { GivesAnswerBy (P.view post.old).is_prompt
@@ -314,9 +314,9 @@ fn show<P: Post, O: Onlooker>(
     if desk.shown(id) != Shown::Pending {
         return Reply::Shown { id };
     }
-    bell.waits();
+    listener.waits();
     compute(rt, desk, post, onlooker);
-    bell.is_done();
+    listener.is_done();
     // Whatever the desk kept, what it shows is what starting over gives.
     let _shown = desk.shown(id);
     Reply::Shown { id }
@@ -381,7 +381,7 @@ fn obey<P: Post, O: Onlooker>(
     post: &mut P,
     command: Command,
     onlooker: &mut O,
-    bell: &mut impl Bell,
+    listener: &mut impl Listener,
 ) -> Reply
     requires { PostMatchesDesk (P.view post.old) desk.old }
     ensures answer { GivesAnswerBy (P.view post.old).is_prompt
@@ -396,9 +396,9 @@ fn obey<P: Post, O: Onlooker>(
 {
     match command {
         Command::Edit(change) => edit(desk, &change),
-        Command::Settle => settle(rt, desk, post, onlooker, bell),
+        Command::Settle => settle(rt, desk, post, onlooker, listener),
         Command::Work => work(rt, desk, post),
-        Command::Show { id } => show(rt, desk, post, id, onlooker, bell),
+        Command::Show { id } => show(rt, desk, post, id, onlooker, listener),
         Command::Peek { id } => peek(desk, id),
         Command::Poll => poll(rt, desk, post),
         Command::List => list(desk),
@@ -409,7 +409,7 @@ fn obey<P: Post, O: Onlooker>(
 }
 
 /// Does what a request asks, and gives the reply. What has to be computed goes over the post, while
-/// the desk is looked at and the bell rings.
+/// the desk is looked at and the listener rings.
 #[tactic(auto, using(crate::proofs::Replies::keeps_obeyed, crate::proofs::Replies::keeps_taken, crate::proofs::Replies::keeps_same, crate::proofs::Noted::looked_obeyed, crate::proofs::Left::left_obeyed, crate::proofs::Left::left_taken, crate::proofs::Left::left_refused, crate::proofs::Left::left_none))]
 pub(crate) fn serve<P: Post, O: Onlooker>(
     rt: &impl Wait,
@@ -419,7 +419,7 @@ pub(crate) fn serve<P: Post, O: Onlooker>(
     post: &mut P,
     request: Request,
     onlooker: &mut O,
-    bell: &mut impl Bell,
+    listener: &mut impl Listener,
 ) -> Reply
     requires { PostMatchesDesk (P.view post.old) desk.old }
     ensures answer { AnswersRequest (P.view post.old).is_prompt request result
@@ -435,7 +435,7 @@ pub(crate) fn serve<P: Post, O: Onlooker>(
         (P.view post.old) (P.view post.new) desk.old desk.new onlooker.old onlooker.new }
 {
     match request {
-        Request::Obey(command) => obey(rt, alloc, desk, rule, post, command, onlooker, bell),
+        Request::Obey(command) => obey(rt, alloc, desk, rule, post, command, onlooker, listener),
         Request::Take { format, text } => take_text(alloc, desk, rule, format, text),
         Request::Refuse(fault) => refused(&fault),
         Request::NoMemory => refused(&EditFault::NoMemory),

@@ -6,7 +6,7 @@ ghost use Rattle.desk_server.specs.Jobs.{PostMatchesDesk, IsFresh};
 ghost use Rattle.desk_server.specs.Ending.{Completes, ReadStops, WriteStops};
 ghost use Rattle.desk_server.specs.Watch.{NotesRun};
 
-use crate::bell::{Bell, Silent};
+use crate::listener::{Listener, Silent};
 use crate::reply::send;
 use crate::serve::serve;
 use crate::watch::note;
@@ -47,7 +47,7 @@ fn answer_commands<R: Read, W: Write, L: Ledger, M: Ledger, P: Post, O: Onlooker
     desk: &mut Desk<'_>,
     post: &mut P,
     onlooker: &mut O,
-    bell: &mut impl Bell,
+    listener: &mut impl Listener,
 ) -> Result<u64, Device>
     requires opening { desk.old.plan ≡ opening 0 }
     requires right { IsRightBook desk.old }
@@ -75,7 +75,9 @@ fn answer_commands<R: Read, W: Write, L: Ledger, M: Ledger, P: Post, O: Onlooker
             }
             continue;
         };
-        let reply = serve(rt, alloc, desk, &mut rule, post, request, onlooker, bell);
+        let reply = serve(
+            rt, alloc, desk, &mut rule, post, request, onlooker, listener,
+        );
         let is_bye = reply.ends();
         if send(writer, desk, reply).is_err() {
             return Err(Device::Writer);
@@ -144,7 +146,7 @@ pub fn run<R: Read, W: Write, L: Ledger, M: Ledger, P: Post>(
 
 /// Does as `run` does, while somebody looks on at the desk: after each reply but `bye`, and Ok says
 /// how many of these looks saw nothing; and where a settling or a show computes, as that begins and
-/// after each answer that is collected. The bell is told when that begins and ends. It may wait where
+/// after each answer that is collected. The listener is told when that begins and ends. It may wait where
 /// the onlooker does.
 ///
 /// With a board's publisher as the onlooker each look publishes a snapshot.
@@ -157,7 +159,7 @@ pub fn run_seen<R: Read, W: Write, L: Ledger, M: Ledger, P: Post, O: Onlooker>(
     writer: &mut CountedWriter<W, M>,
     post: &mut P,
     onlooker: &mut O,
-    bell: &mut impl Bell,
+    listener: &mut impl Listener,
 ) -> Result<u64, RunFault>
     // The post is of the table, and took no job before.
     requires { IsFresh (P.view post.old) entries.now }
@@ -196,7 +198,7 @@ pub fn run_seen<R: Read, W: Write, L: Ledger, M: Ledger, P: Post, O: Onlooker>(
         return Err(RunFault::NoMemory);
     };
     let answered = answer_commands(
-        rt, alloc, reader, writer, &mut line, &mut desk, post, onlooker, bell,
+        rt, alloc, reader, writer, &mut line, &mut desk, post, onlooker, listener,
     );
     // Nobody takes the answers of the jobs that are out.
     desk.stop_all();

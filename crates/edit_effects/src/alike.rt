@@ -2,7 +2,7 @@
 ghost use Rattle.std.specs.Prelude.{◌≡◌, ◌↔◌, IfOk, IsTrue, None, Some};
 ghost use Rattle.schedule.specs.Asked.{asked_of};
 ghost use Rattle.schedule.specs.Change.{changed, first_refusal, refusals};
-ghost use Rattle.desk_events.specs.Felt.{LayAlikeOn, cells_of};
+ghost use Rattle.desk_events.specs.Felt.{LayAlikeOn, cells_acting_at};
 
 use crate::cells::{cells_after, cells_at};
 use desk_events::Mark;
@@ -20,8 +20,8 @@ pub fn lays_alike(
 ) -> Result<bool, AllocError>
     requires { first_refusal (refusals document.now (asked_of edit.now)) ≡ None }
     ensures { IfOk result (λ alike. IsTrue alike ↔ LayAlikeOn (Some arrival.now)
-        (cells_of document.now.interventions mark)
-        (cells_of (changed document.now (asked_of edit.now)).plan.interventions mark)) }
+        (cells_acting_at document.now.interventions mark)
+        (cells_acting_at (changed document.now (asked_of edit.now)).plan.interventions mark)) }
 {
     // A document keeps its limits, so its cells can be laid.
     let _start = document.start();

@@ -7,7 +7,7 @@ use Rattle.hash_engine.proofs.Names.{set, sought, square_in-grows, square_of, sq
 use Rattle.square_table.specs.Squares.{square_in}
 use Rattle.hash_engine.proofs.Making.{HasMade-grows}
 use Rattle.hash_engine.proofs.Finding.{HasPut-grows, same_rule, Keeps-adds, Keeps-grown, Keeps-then, IsFound-then, made_of, one_result, StandForAll-found, by_number, by_square, by_found, Asks-then, Asks-grown, Asks-next, IsPut-kept}
-use Rattle.hash_life.specs.Result.{result}
+use Rattle.hash_life_laws.specs.Result.{result}
 use Rattle.hash_engine.proofs.Standing.{◌⟫◌, StandsFor-itself, StandsFor-grows, StandsFor-joined, Adds-made, four_stand}
 
 -- the first i of the squares have their results, and the others are as they were

@@ -9,12 +9,12 @@ pub use Rattle.hash_engine.specs.Search.{MakesFor, MakesForAll, PutsAll, sought}
 pub use Rattle.hash_engine.specs.Standing.{StandForAll, StandsFor, of_four}
 pub use Rattle.hash_engine.specs.declared.block.Block.{Block}
 pub use Rattle.hash_engine.specs.declared.memo.Memo.{Memo}
-pub use Rattle.hash_life.proofs.Shared.InTwo.{OfParts, Puts-itself, Puts-parts, result-in_two, result-later, result-none}
-pub use Rattle.hash_life.proofs.Shared.Made.{Makes-itself, Makes-last, Makes-none, Makes-parts, Makes-result, Makes-weaker, Makes-whole}
-pub use Rattle.hash_life.proofs.Shared.Put.{Puts-last, Puts-none, Puts-weaker, Puts-whole}
-pub use Rattle.hash_life.specs.Makes.{Makes}
-pub use Rattle.hash_life.specs.Puts.{IsBelow, Puts, fours_of, nine_of}
-pub use Rattle.hash_life.specs.Result.{in_two, later, middle, result}
+pub use Rattle.hash_life_laws.proofs.Shared.InTwo.{OfParts, Puts-itself, Puts-parts, result-in_two, result-later, result-none}
+pub use Rattle.hash_life_laws.proofs.Shared.Made.{Makes-itself, Makes-last, Makes-none, Makes-parts, Makes-result, Makes-weaker, Makes-whole}
+pub use Rattle.hash_life_laws.proofs.Shared.Put.{Puts-last, Puts-none, Puts-weaker, Puts-whole}
+pub use Rattle.hash_life_laws.specs.Makes.{Makes}
+pub use Rattle.hash_life_laws.specs.Puts.{IsBelow, Puts, fours_of, nine_of}
+pub use Rattle.hash_life_laws.specs.Result.{in_two, later, middle, result}
 pub use Rattle.square_table.proofs.Shared.Growth.{AreNumbers-grows, AreNumbers-quadrants, Grows-same, Grows-then, IsNumber-grows, IsNumber-joined, square_in-grows, square_in-joined, square_in-quadrants, square_of-grows}
 pub use Rattle.square_table.proofs.Shared.Making.{Adds-joined, IsMade-grows, notes_joined}
 pub use Rattle.square_table.proofs.Shared.Numbers.{one_level}

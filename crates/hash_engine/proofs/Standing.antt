@@ -4,7 +4,7 @@ use Rattle.hash_engine.proofs.Names.{Grows-then, GrowsBy, IsBlock, IsNumber-grow
 use Rattle.hash_engine.proofs.Names.{get_or, inl, kids_at, length, lit<, map, nine_of, no_block, one, refl, result_of, square_in, square_in-grows, square_in-joined, square_in-quadrants, square_of, square_of-grows, subst, suc, sym, zero, ℕ}
 use Rattle.hash_engine.proofs.Names.{◌+◌, ◌<◌, ◌∙◌, ◌∷◌, ◌≡◌, ◌≤◌}
 use Rattle.square_table.specs.Squares.{IsNumber}
-use Rattle.hash_life.specs.Puts.{IsBelow}
+use Rattle.hash_life_laws.specs.Puts.{IsBelow}
 
 infixr 20 ◌⟫◌
 pub ◌⟫◌ : {t u v : Table} → Grows t u → Grows u v → Grows t v

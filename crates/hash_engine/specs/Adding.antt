@@ -5,9 +5,9 @@ use Rattle.worlds.specs.Square.{one, four}
 use Rattle.square_table.specs.declared.square.Square.{Square}
 use Rattle.square_table.specs.Squares.{Table, AreNumbers, square_in, square_of, Grows, level_of, cells_of}
 use Rattle.square_table.specs.Made.{AreAmong, Adds}
-use Rattle.hash_life.specs.Result.{middle, later}
-use Rattle.hash_life.specs.Puts.{fours_of}
-use Rattle.hash_life.specs.Makes.{Makes}
+use Rattle.hash_life_laws.specs.Result.{middle, later}
+use Rattle.hash_life_laws.specs.Puts.{fours_of}
+use Rattle.hash_life_laws.specs.Makes.{Makes}
 use Rattle.hash_engine.specs.Standing.{StandsFor, StandForAll}
 
 -- whatever square of 4 by 4 cells or more n stands for, the table has no square more but those of f

@@ -2,8 +2,8 @@
 use Rattle.std.specs.Prelude.{◌≡◌, ℕ, ◌<◌, List, [], length, map, get_or}
 use Rattle.worlds.specs.Square as squares
 use Rattle.square_table.specs.Squares.{Table, AreNumbers, square_of}
-use Rattle.hash_life.specs.Result.{later, result}
-use Rattle.hash_life.specs.Puts.{Puts, IsBelow, fours_of}
+use Rattle.hash_life_laws.specs.Result.{later, result}
+use Rattle.hash_life_laws.specs.Puts.{Puts, IsBelow, fours_of}
 use Rattle.hash_engine.specs.Standing.{StandsFor, StandForAll}
 use Rattle.hash_engine.specs.declared.block.Block.{Block}
 

@@ -5,8 +5,8 @@ use Rattle.square_table.specs.declared.square.Square.{Square}
 use Rattle.square_table.specs.Squares.{Table, IsHeld, level_of, cells_of}
 use Rattle.square_table.specs.Made.{IsFull}
 use Rattle.square_table.specs.declared.fault.TableFault.TheVariants.{NoRoom}
-use Rattle.hash_life.specs.Result.{result}
-use Rattle.hash_life.specs.Puts.{IsBelow}
+use Rattle.hash_life_laws.specs.Result.{result}
+use Rattle.hash_life_laws.specs.Puts.{IsBelow}
 use Rattle.hash_engine.specs.Memo.{IsRightMemo}
 use Rattle.hash_engine.specs.declared.memo.Memo.{Memo}
 use Rattle.hash_engine.specs.declared.fault.ResultFault.{ResultFault}

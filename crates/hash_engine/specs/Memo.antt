@@ -3,9 +3,9 @@ use Rattle.std.specs.Prelude.{◌≡◌, ◌≢◌, ℕ, suc, ◌+◌, ◌-◌, 
 use Rattle.worlds.specs.Square.{Square}
 use Rattle.square_table.specs.Squares.{Table, IsNumber, square_in, first_number}
 use Rattle.square_table.specs.Made.{IsMade}
-use Rattle.hash_life.specs.Result.{result}
-use Rattle.hash_life.specs.Puts.{Puts}
-use Rattle.hash_life.specs.Makes.{Makes}
+use Rattle.hash_life_laws.specs.Result.{result}
+use Rattle.hash_life_laws.specs.Puts.{Puts}
+use Rattle.hash_life_laws.specs.Makes.{Makes}
 use Rattle.hash_engine.specs.Standing.{StandsFor}
 use Rattle.hash_engine.specs.Blocks.{IsLaterOf, IsKnownBlock, AreKnownBlocks}
 use Rattle.hash_engine.specs.declared.block.Block.{Block}

@@ -3,9 +3,9 @@ use Rattle.std.specs.Prelude.{◌≡◌, ℕ, suc, ◌+◌, ◌*◌, ◌^◌, �
 use Rattle.worlds.specs.Square.{Square}
 use Rattle.square_table.specs.Squares.{Table, square_in, Grows}
 use Rattle.square_table.specs.Made.{IsMade, AreAmong}
-use Rattle.hash_life.specs.Result.{result}
-use Rattle.hash_life.specs.Puts.{Puts}
-use Rattle.hash_life.specs.Makes.{Makes}
+use Rattle.hash_life_laws.specs.Result.{result}
+use Rattle.hash_life_laws.specs.Puts.{Puts}
+use Rattle.hash_life_laws.specs.Makes.{Makes}
 use Rattle.hash_engine.specs.Standing.{StandsFor, IsReady}
 use Rattle.hash_engine.specs.Memo.{IsRightMemo, IsAnew, IsPut, HasPut, HasMade}
 use Rattle.hash_engine.specs.Blocks.{later_of, IsReadyBlock}

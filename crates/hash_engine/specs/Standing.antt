@@ -3,7 +3,7 @@ use Rattle.std.specs.Prelude.{◌≡◌, ℕ, suc, ◌<◌, List, length, get_or
 use Rattle.worlds.specs.Square as squares
 use Rattle.worlds.specs.Square.{one, four}
 use Rattle.square_table.specs.Squares.{IsNumber, AreNumbers, square_in, square_of}
-use Rattle.hash_life.specs.Puts.{Puts, IsBelow}
+use Rattle.hash_life_laws.specs.Puts.{Puts, IsBelow}
 
 -- n is the number of the square s of level k
 pub record StandsFor (rows : List (List ℕ)) (k n : ℕ) (s : squares.Square) : Type 0 where

@@ -4,7 +4,7 @@
 //! their quadrants, and a block that isn't in it is put to the rule again: so the table has none of them.
 ghost use Rattle.std.specs.Prelude.{◌≡◌, length, IfOk, OnOk, Err};
 ghost use Rattle.square_table.specs.Made.{IsFull};
-ghost use Rattle.hash_life.specs.Result as life;
+ghost use Rattle.hash_life_laws.specs.Result as life;
 ghost use Rattle.hash_engine.specs.Standing.{StandsFor};
 ghost use Rattle.hash_engine.specs.Search.{CanCompute, CanSeekBlock, CanSeekBlocks, FindsBlock, FirstHaveResults, KeepsFor, KeepsForBlock, KeepsForBlocks, sought};
 

@@ -2,7 +2,7 @@
 //! distinct square is computed once, but for blocks of 4 by 4 cells: a `search` remembers a limited
 //! number of them, and puts one that it no longer remembers to the rule again.
 //!
-//! A result is that of the function of squares of `hash_life`, which is single steps by the law that stands
+//! A result is that of the function of squares of `hash_life_laws`, which is single steps by the law that stands
 //! there (R. Wm. Gosper, Exploiting Regularities in Large Cellular Spaces, Physica 10D, 1984). A
 //! square of level k + 2 is asked for nine results of level k + 1 and four of what these make. In one
 //! call a level is asked for two counts of generations at most, the full 2^k and one other. Results by

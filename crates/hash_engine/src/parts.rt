@@ -4,8 +4,8 @@ ghost use Rattle.std.specs.Prelude.{◌≡◌, ◌+◌, ℕ, suc, [], ◌∷◌,
 ghost use Rattle.worlds.specs.Square.{four};
 ghost use Rattle.square_table.specs.Squares.{IsNumber, AreNumbers, square_in, square_of, Grows, kids_at};
 ghost use Rattle.square_table.specs.Made.{Adds, IsFull};
-ghost use Rattle.hash_life.specs.Result.{middle, later};
-ghost use Rattle.hash_life.specs.Puts.{nine_of, IsBelow};
+ghost use Rattle.hash_life_laws.specs.Result.{middle, later};
+ghost use Rattle.hash_life_laws.specs.Puts.{nine_of, IsBelow};
 ghost use Rattle.hash_engine.specs.Standing.{CanBePut, BlockCanBePut, of_four};
 ghost use Rattle.hash_engine.specs.Adding.{AddsOf, AddsFours, AddsJoined, AddsMiddle, AddsMiddles, AreMiddles, GivesOf, GiveAllOf, GiveFours, GiveJoined, GivesMiddle, GivesMiddles, GivesPut, GivesBlockPut};
 ghost use Rattle.hash_engine.specs.Blocks.{AreBlocks, GiveFourBlocks};

@@ -3,7 +3,7 @@ ghost use Rattle.std.specs.Prelude.{◌≡◌};
 
 use crate::answers::AnswerReceiver;
 use crate::outbox::Outbox;
-use revision_jobs::{History, Job, Post, Received, Sent};
+use revision_jobs::{Job, Post, PostRecord, Received, Sent};
 use std::marker::Model;
 use std::sync::Wait;
 
@@ -18,7 +18,7 @@ pub struct PoolPost<'a, R: Wait> {
     rt: &'a R,
     jobs: Outbox<'a>,
     back: AnswerReceiver,
-    history: History,
+    history: PostRecord,
 }
 
 impl<'a, R: Wait> Model for PoolPost<'a, R> {
@@ -52,7 +52,7 @@ impl<'a, R: Wait> PoolPost<'a, R> {
             rt,
             jobs,
             back,
-            history: History::none(),
+            history: PostRecord::none(),
         }
     }
 }

@@ -2,7 +2,7 @@
 use Rattle.reply_laws.proofs.Names.{AllByRecursion, Asked, Between, Change, Ended, Fits, HasStates, HasText, Insert, Intervention, IsMadeAnew, IsWrittenDistance, LineFits, List, Plan, RemoveIntervention, Session, SetsSome}
 use Rattle.reply_laws.proofs.Names.{WhateverIsScriptedIsMadeAnew, [], acting, all_append, all_so, arith, asks, asks-fit, changed, length, lines_until, next_intervention, not, opening, opening_session, sessions, ◌<◌, ◌==◌, ◌∷◌}
 use Rattle.schedule.proofs.Shared.Ids.{each_filter, each_map}
-use Rattle.document_replay.proofs.Shared.Made.{IsNumbered, made, numbered_opening, numbered_step, rows_few}
+use Rattle.replay_laws.proofs.Shared.Made.{IsNumbered, made, numbered_opening, numbered_step, rows_few}
 use Rattle.reply_laws.proofs.OneLine.{KeepsLimits, Stays, answer-keeps, each-line}
 use Rattle.reply_laws.proofs.OneLine.{limits-stay, opening-keeps}
 use Rattle.reply_laws.proofs.Remade.{scripts_anew}

@@ -13,7 +13,7 @@ pub use Rattle.desk_server.specs.Answer.{unless_memory, unless_unread}
 pub use Rattle.desk_server.specs.Faults.{Fault, of_edit, of_macrocell, of_pattern, of_rule, of_script}
 pub use Rattle.desk_server.specs.Script.{afters, documents_of, documents_with, first_shortage, later_shortages}
 pub use Rattle.desk_server.specs.Shortage.{AllCausedOver, IsCaused, IsCausedOver, Known, NoShortage, Shortage, Unsettled}
-pub use Rattle.document_replay.specs.Replay.{add_all, add_bookmark, add_branch, add_intervention, bookmark_edits, branch_edits, edits_for, ids_between, intervention_edits, row_edits, skip_bookmark, skip_branch, skip_intervention}
+pub use Rattle.replay_laws.specs.Replay.{add_all, add_bookmark, add_branch, add_intervention, bookmark_edits, branch_edits, edits_for, ids_between, intervention_edits, row_edits, skip_bookmark, skip_branch, skip_intervention}
 pub use Rattle.multistate_rle.specs.Pattern.{pattern_of}
 pub use Rattle.plane_core.specs.declared.loaded.Loaded.{Loaded}
 pub use Rattle.reply_laws.specs.Anew.{CanBeWritten, HasText, IsAccepted, IsMadeAnew, KeptTextsAreRules, MakesAnew, ScriptsMakeAnew, WhateverIsScriptedIsMadeAnew, last_plan, sessions}

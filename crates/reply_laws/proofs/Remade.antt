@@ -24,10 +24,10 @@ use Rattle.multistate_macrocell.specs.Pattern as macrocells
 use Rattle.multistate_macrocell.specs.PatternText.{macrocell_text, node_of, nodes_of}
 use Rattle.multistate_macrocell.proofs.RowNodes.{rows-nodes, written-means}
 use Rattle.schedule.specs.declared.edit.Edit.{Edit}
-use Rattle.document_replay.specs.Law.{IsMade, Lead, bare, remade}
-use Rattle.document_replay.proofs.Shared.Leading.{lead_on}
-use Rattle.document_replay.proofs.Shared.Remade.{made_anew, rows_are_made_anew}
-use Rattle.document_replay.proofs.Shared.Worlds.{start_leads}
+use Rattle.replay_laws.specs.Law.{IsMade, Lead, bare, remade}
+use Rattle.replay_laws.proofs.Shared.Leading.{lead_on}
+use Rattle.replay_laws.proofs.Shared.Remade.{made_anew, rows_are_made_anew}
+use Rattle.replay_laws.proofs.Shared.Worlds.{start_leads}
 use Rattle.desk_script.specs.declared.format.Format.TheVariants as format
 use Rattle.desk_script.specs.declared.command.Command.TheVariants as command
 use Rattle.desk_script.specs.Scripted.{edit_lines, script_text, start_lines}

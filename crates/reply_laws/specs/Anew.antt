@@ -11,8 +11,8 @@ use Rattle.plane_core.specs.WorldRows.{rows_of}
 use Rattle.schedule.specs.declared.document.Intervention.{Intervention}
 use Rattle.schedule.specs.Plan.{Plan, opening}
 use Rattle.schedule.specs.Sound.{IsSound}
-use Rattle.document_replay.specs.Law.{IsMade, remade}
-use Rattle.document_replay.specs.Replay.{edits_for}
+use Rattle.replay_laws.specs.Law.{IsMade, remade}
+use Rattle.replay_laws.specs.Replay.{edits_for}
 use Rattle.desk_script.specs.ReadsBack.{IsCount, IsWrittenDistance}
 use Rattle.desk_script.specs.Asks.{Ask, Between, asks}
 use Rattle.desk_script.specs.Scripted.{script_text}

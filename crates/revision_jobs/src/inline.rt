@@ -5,8 +5,8 @@ ghost use Rattle.revision_jobs.specs.Inline.{new_inline};
 use crate::answer::Job;
 use crate::entries::Entries;
 use crate::gate::NoGate;
-use crate::history::History;
 use crate::post::{Post, Received, Sent};
+use crate::post_record::PostRecord;
 use crate::worker::work;
 use std::alloc::Global;
 use std::marker::Model;
@@ -20,7 +20,7 @@ pub struct InlinePost<'a> {
     entries: &'a Entries,
     floor: u64,
     held: Option<Job>,
-    history: History,
+    history: PostRecord,
     squares: u32,
     alloc: Global,
 }
@@ -51,7 +51,7 @@ impl<'a> InlinePost<'a> {
             entries,
             floor: 0,
             held: None,
-            history: History::none(),
+            history: PostRecord::none(),
             squares,
             alloc,
         }

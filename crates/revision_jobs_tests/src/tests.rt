@@ -45,7 +45,7 @@ fn is_within(view: &View) -> bool
     view.has_window_size() && view.lies_in_range()
 }
 
-fn cells_of(rt: &impl Abort, alloc: Global, rows: &[Row]) -> Listing<CellSet> {
+fn cells_set(rt: &impl Abort, alloc: Global, rows: &[Row]) -> Listing<CellSet> {
     Listing::from_vec(sets_of(alloc, rows).expect(rt, "memory"))
 }
 
@@ -127,6 +127,6 @@ fn push_from_one<R: Abort + Wait>(rt: &R, alloc: Global, entries: &Entries, gens
     ensures { IsOf entries.now result }
 {
     let from = shared(rt, alloc, plane_of(rt, alloc, &[(0, 0, 1)]));
-    let none = cells_of(rt, alloc, &[]);
+    let none = cells_set(rt, alloc, &[]);
     push_step(rt, alloc, entries, from, none, gens)
 }

@@ -11,7 +11,7 @@ pub use Rattle.schedule.specs.Change.{acting, acts_too_far, all_set_below, chang
 pub use Rattle.schedule.specs.Change.{for_intervention, for_marks, for_moved_bookmark, for_removed_branch, for_rule, for_start, for_view, is_bad_repeat, is_before_fork, is_in_use, is_named, is_too_far, lies_below, lies_near, marking}
 pub use Rattle.schedule.specs.Change.{may_be_named, next_bookmark, next_branch, next_intervention, refusal, refusals, revised, set_below, spent, stay_in_range, with_branch, with_changed_intervention, with_intervention, with_moved_bookmark}
 pub use Rattle.schedule.specs.Change.{without_bookmark, without_branch, without_intervention}
-pub use Rattle.schedule.specs.History.{History, arrive, is_felt}
+pub use Rattle.schedule.specs.Evolution.{Evolution, arrive, is_felt}
 pub use Rattle.schedule.specs.Ids.{IdsRise, bookmark_id, branch_id, changed_at, has_id, intervention_id, without}
 pub use Rattle.schedule.specs.Kept.{plan_of}
 pub use Rattle.schedule.specs.Laws.{AreSinglesOf, IsMark, IsOneLine, IsProgression, IsReach, SameElsewhere, after_alone, arrival_alone, setting, told}

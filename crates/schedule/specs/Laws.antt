@@ -18,7 +18,7 @@ use Rattle.schedule.specs.Acts.{acts_on, generations_of, marks_to, IsTimely}
 use Rattle.schedule.specs.Plan.{Plan}
 use Rattle.schedule.specs.Alike.{LayAlike, LayAlikeWithin}
 use Rattle.schedule.specs.Branches.{has_branch, fork_of, parent_of, reach}
-use Rattle.schedule.specs.History.{is_felt}
+use Rattle.schedule.specs.Evolution.{is_felt}
 use Rattle.schedule.specs.Scratch.{cells_at, arrival, after, scratch}
 use Rattle.schedule.specs.Sound.{IsSound}
 use Rattle.schedule.specs.Change.{is_in_use, with_branch, without_branch}

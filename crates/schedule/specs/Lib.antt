@@ -4,7 +4,7 @@ pub mod Acts
 pub mod Repeats
 pub mod Plan
 pub mod Branches
-pub mod History
+pub mod Evolution
 pub mod Kept
 pub mod Sound
 pub mod Scratch

@@ -10,7 +10,7 @@ use Rattle.schedule.specs.declared.document.Intervention.{Intervention}
 use Rattle.schedule.specs.declared.document.Bookmark.{Bookmark}
 use Rattle.schedule.specs.Acts.{acts_on}
 use Rattle.schedule.specs.Plan.{Plan}
-use Rattle.schedule.specs.History.{History, arrive}
+use Rattle.schedule.specs.Evolution.{Evolution, arrive}
 
 -- whether an intervention acts at generation g of branch b
 abbrev pub acts_at : Intervention → ℕ → ℕ → Bool
@@ -25,7 +25,7 @@ abbrev pub cells_at : List Intervention → ℕ → ℕ → List CellSet
 cells_at interventions b g = flat_map (λ i. own_cells i b g) interventions
 
 -- the rule, the interventions, the start and the branches of a document
-abbrev pub history_of : Plan → History
+abbrev pub history_of : Plan → Evolution
 history_of p = record {
   next = next_of p.rule;
   cells = cells_at p.interventions;

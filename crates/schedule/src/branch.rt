@@ -2,7 +2,7 @@
 ghost use Rattle.std.specs.Prelude.{◌≡◌};
 ghost use Rattle.schedule.specs.Branches.{has_branch, fork_of, parent_of, has_children};
 ghost use Rattle.schedule.specs.Branches.{farthest_fork, element_at};
-ghost use Rattle.schedule.specs.History.{is_felt};
+ghost use Rattle.schedule.specs.Evolution.{is_felt};
 ghost use Rattle.schedule.specs.Ids.{branch_id, has_id};
 ghost use Rattle.schedule.specs.Sound.{IsForked};
 ghost use Rattle.std.specs.List.{AllByRecursion};

@@ -2,7 +2,7 @@
 ghost use Rattle.std.specs.Prelude.{◌≡◌, IfOk};
 ghost use Rattle.std.specs.Arc.{arc_value};
 ghost use Rattle.schedule.specs.Branches.{element_at, fork_of, farthest_bookmark, reach};
-ghost use Rattle.schedule.specs.History.{is_felt};
+ghost use Rattle.schedule.specs.Evolution.{is_felt};
 ghost use Rattle.schedule.specs.Ids.{branch_id};
 ghost use Rattle.schedule.specs.Plan.{opening};
 ghost use Rattle.schedule.specs.Sound.{IsSound};

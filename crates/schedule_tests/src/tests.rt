@@ -39,14 +39,14 @@ fn same<T: PartialEq + Debug, A: Debug>(rt: &impl Abort, found: &T, wanted: &T, 
     assert!(rt; found == wanted, "{at:?}: {found:?}, not {wanted:?}");
 }
 
-fn cells_of(rt: &impl Abort, alloc: Global, rows: &[Row]) -> Listing<CellSet> {
+fn cells_set(rt: &impl Abort, alloc: Global, rows: &[Row]) -> Listing<CellSet> {
     Listing::from_vec(sets_of(alloc, rows).expect(rt, "memory"))
 }
 
 /// The edit that sets the cells of the rows.
 fn set(rt: &impl Abort, alloc: Global, rows: &[Row]) -> Edit {
     Edit::SetCells {
-        cells: cells_of(rt, alloc, rows),
+        cells: cells_set(rt, alloc, rows),
     }
 }
 

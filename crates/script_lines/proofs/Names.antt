@@ -5,7 +5,7 @@ pub use Rattle.script_lines.specs.Input.{IsDrained, ahead, bytes_left, left}
 pub use Rattle.script_lines.specs.KeptLine.{Holds, IsRest, KeepsBy, Saw, Says, TakesLine, Took, ends_in_space, raw_of, squash, waiting}
 pub use Rattle.script_lines.specs.Script.{EndsHere, LineTaken, MayFollow, NoEndAmong, StopsInLine, TakesInto, TextTaken, next_number}
 pub use Rattle.script_lines.specs.ScriptLine.{NoneEnds, is_end, is_passed_over, raw_bytes}
-pub use Rattle.script_lines.specs.Text.{GrowsText, IsText, len_of}
+pub use Rattle.script_lines.specs.KeptText.{GrowsText, IsText, len_of}
 pub use Rattle.script_lines.specs.Words.{is_word, squashed, starts_in_word, words}
 pub use Rattle.script_lines.specs.declared.kept_line.KeptLine.{KeptLine}
 pub use Rattle.script_lines.specs.declared.kept_line.Tail.TheVariants.{Blank, Cut, Whole}

@@ -8,8 +8,8 @@ use Rattle.script_lines.specs.Words.{squashed}
 use Rattle.script_lines.specs.declared.kept_line.Tail.{Tail}
 use Rattle.script_lines.specs.declared.kept_line.Tail.TheVariants.{Whole, Blank, Cut}
 use Rattle.script_lines.specs.declared.kept_line.KeptLine.{KeptLine}
-use Rattle.script_lines.specs.declared.kept_line.Found.{Found}
-use Rattle.script_lines.specs.declared.kept_line.Found.TheVariants as found
+use Rattle.script_lines.specs.declared.kept_line.LineFound.{LineFound}
+use Rattle.script_lines.specs.declared.kept_line.LineFound.TheVariants as found
 
 -- the bytes with each run of spaces cut to one; `after` says whether a space came before them
 abbrev pub squash : Bool → List ℕ → List ℕ
@@ -79,7 +79,7 @@ pub record Says (line : KeptLine) (says : List ℕ) : Type 0 where
   pub keeps : KeepsBy line.tail line.kept.items (squashed says)
 
 -- a line with its end was taken, or the last line, or there was none
-abbrev pub TakesLine : Found → Ahead → Ahead → List ℕ → KeptLine → Type 0
+abbrev pub TakesLine : LineFound → Ahead → Ahead → List ℕ → KeptLine → Type 0
 TakesLine found.Line old new seen line =
     TakesBytes old new (seen ++ 10 ∷ []) × Says line (trim (strip_carriage_return seen))
 TakesLine found.Last old new seen line =
@@ -87,7 +87,7 @@ TakesLine found.Last old new seen line =
 TakesLine found.End old new seen line = (seen ≡ []) × TakesBytes old new [] × IsAtEnd new.bytes
 
 -- the bytes of the line with its end
-abbrev pub raw_of : Found → List ℕ → List ℕ
+abbrev pub raw_of : LineFound → List ℕ → List ℕ
 raw_of found.Line seen = seen ++ 10 ∷ []
 raw_of found.Last seen = seen
 raw_of found.End seen = seen

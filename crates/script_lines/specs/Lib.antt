@@ -3,8 +3,8 @@ pub mod Counted
 pub mod Faults
 pub mod Input
 pub mod KeptLine
+pub mod KeptText
 pub mod Numbers
 pub mod Script
 pub mod ScriptLine
-pub mod Text
 pub mod Words

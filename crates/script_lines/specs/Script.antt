@@ -5,10 +5,10 @@ use Rattle.text_lines.specs.Lines.{End, Ended, Broken, Line, lines_until}
 use Rattle.script_lines.specs.Ahead.{Ahead, TakesBytes}
 use Rattle.script_lines.specs.KeptLine.{Says}
 use Rattle.script_lines.specs.ScriptLine.{NoneEnds, raw_bytes, is_end}
-use Rattle.script_lines.specs.Text.{IsText, GrowsText}
+use Rattle.script_lines.specs.KeptText.{IsText, GrowsText}
 use Rattle.script_lines.specs.declared.kept_line.KeptLine.{KeptLine}
-use Rattle.script_lines.specs.declared.kept_line.Found.{Found}
-use Rattle.script_lines.specs.declared.kept_line.Found.TheVariants as found
+use Rattle.script_lines.specs.declared.kept_line.LineFound.{LineFound}
+use Rattle.script_lines.specs.declared.kept_line.LineFound.TheVariants as found
 use Rattle.script_lines.specs.declared.reader.TextFound.{TextFound}
 use Rattle.script_lines.specs.declared.reader.TextFound.TheVariants as text
 
@@ -31,13 +31,13 @@ abbrev pub EndsHere : Ahead → Ahead → Type 0
 EndsHere old new = TakesBytes old new [] × IsAtEnd new.bytes
 
 -- what was found where a line could begin
-abbrev pub FindsLine : Found → Ahead → Ahead → KeptLine → Type 0
+abbrev pub FindsLine : LineFound → Ahead → Ahead → KeptLine → Type 0
 FindsLine found.Line old new kept = LineTaken false old new kept
 FindsLine found.Last old new kept = LineTaken true old new kept
 FindsLine found.End old new kept = EndsHere old new
 
 -- the same, where the line's bytes went into a text
-abbrev pub TakesInto : Found → Ahead → Ahead → KeptLine → Option (List ℕ) → Option (List ℕ) → Type 0
+abbrev pub TakesInto : LineFound → Ahead → Ahead → KeptLine → Option (List ℕ) → Option (List ℕ) → Type 0
 TakesInto found.Line old new kept before after =
     (t : LineTaken false old new kept) × GrowsText before after t.line.raw
 TakesInto found.Last old new kept before after =
@@ -45,7 +45,7 @@ TakesInto found.Last old new kept before after =
 TakesInto found.End old new kept before after = EndsHere old new
 
 -- how many lines were taken then
-abbrev pub next_number : Found → ℕ → ℕ
+abbrev pub next_number : LineFound → ℕ → ℕ
 next_number found.Line n = n + 1
 next_number found.Last n = n + 1
 next_number found.End n = n

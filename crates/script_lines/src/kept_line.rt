@@ -4,12 +4,12 @@ ghost use Rattle.script_lines.specs.Ahead.{TakesBytes};
 ghost use Rattle.text_lines.specs.Blanks.{trim};
 ghost use Rattle.text_lines.specs.Lines.{NoLineFeed, strip_carriage_return};
 ghost use Rattle.script_lines.specs.Input.{ahead, FailsOrFull, IsDrained};
-ghost use Rattle.script_lines.specs.Text.{GrowsText};
+ghost use Rattle.script_lines.specs.KeptText.{GrowsText};
 ghost use Rattle.script_lines.specs.Words.{words, squashed};
 
 use crate::input::Input;
+use crate::kept_text::KeptText;
 use crate::source::{Failed, Source};
-use crate::text::Text;
 use std::alloc::{AllocError, Global};
 use std::io::Read;
 use std::sync::ledger::Ledger;
@@ -31,7 +31,7 @@ pub(crate) enum Tail {
 
 /// What was found where a line could begin.
 #[derive(Clone, Copy, Debug, PartialEq, Eq)]
-pub enum Found {
+pub enum LineFound {
     /// A line and its line feed.
     Line,
     /// The last line, which has no line feed: nothing follows.
@@ -160,7 +160,7 @@ impl KeptLine {
     }
 
     // Takes the carriage return that waited.
-    fn settle(&mut self)
+    fn take_waiting(&mut self)
         ensures { (seen : List ℕ) → Saw self.old seen → Took self.new seen }
     {
         if self.waits {
@@ -169,10 +169,10 @@ impl KeptLine {
     }
 
     // The next byte of the line, no line feed.
-    fn feed(&mut self, byte: u8)
+    fn take_byte(&mut self, byte: u8)
         ensures { (seen : List ℕ) → Saw self.old seen → Saw self.new (seen ++ byte ∷ []) }
     {
-        self.settle();
+        self.take_waiting();
         self.waits = byte == b'\r';
         if byte != b'\r' {
             self.push(byte);
@@ -191,7 +191,7 @@ impl KeptLine {
     fn end_input(&mut self)
         ensures { (seen : List ℕ) → Saw self.old seen → Says self.new (trim seen) }
     {
-        self.settle();
+        self.take_waiting();
         self.close();
     }
 
@@ -200,8 +200,8 @@ impl KeptLine {
         &mut self,
         reader: &mut Source<R, L>,
         input: &mut Input,
-        text: &mut Text,
-    ) -> Result<Found, Failed>
+        text: &mut KeptText,
+    ) -> Result<LineFound, Failed>
         ensures line { IfOk result (λ found. (seen : List ℕ) × NoLineFeed seen
             × GrowsText text.old text.new (raw_of found seen)
             × TakesLine found (ahead (R.remaining reader.old.inner) reader.old.given input.old)
@@ -219,12 +219,16 @@ impl KeptLine {
             text.push(byte);
             if byte == b'\n' {
                 self.end_line();
-                return Ok(Found::Line);
+                return Ok(LineFound::Line);
             }
-            self.feed(byte);
+            self.take_byte(byte);
             empty = false;
         }
         self.end_input();
-        Ok(if empty { Found::End } else { Found::Last })
+        Ok(if empty {
+            LineFound::End
+        } else {
+            LineFound::Last
+        })
     }
 }

@@ -12,17 +12,17 @@
 mod failures;
 mod input;
 mod kept_line;
+mod kept_text;
 mod numbers;
 mod reader;
 mod source;
-mod text;
 mod words;
 mod writer;
 
-pub use kept_line::{Found, KeptLine};
+pub use kept_line::{KeptLine, LineFound};
+pub use kept_text::KeptText;
 pub use numbers::{signed, unsigned};
 pub use reader::{CountedReader, TextFound};
 pub use source::Failed;
-pub use text::Text;
 pub use words::next_word;
 pub use writer::CountedWriter;

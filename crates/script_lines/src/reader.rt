@@ -6,9 +6,9 @@ ghost use Rattle.script_lines.specs.Input.{FailsOrFull};
 ghost use Rattle.script_lines.specs.Script.{FindsLine, next_number, StopsInLine, NoEndAmong, ReadsText, TakesInto};
 
 use crate::input::Input;
-use crate::kept_line::{Found, KeptLine};
+use crate::kept_line::{KeptLine, LineFound};
+use crate::kept_text::KeptText;
 use crate::source::{Failed, Source};
-use crate::text::Text;
 use std::alloc::Global;
 use std::io::Read;
 use std::marker::Model;
@@ -47,7 +47,7 @@ impl<R: Read, L: Ledger> Model for CountedReader<R, L> {
 #[derive(Debug, Drop)]
 pub enum TextFound {
     /// The text up to its line `end`, and whether that was the last line of the script.
-    Ended { text: Text, last: bool },
+    Ended { text: KeptText, last: bool },
     /// The script ended before a line `end`.
     NoEnd,
 }
@@ -94,7 +94,7 @@ impl<R: Read, L: Ledger> CountedReader<R, L> {
     }
 
     // Takes the next line, and puts its bytes into the text too.
-    fn take_line(&mut self, line: &mut KeptLine, text: &mut Text) -> Result<Found, Failed>
+    fn take_line(&mut self, line: &mut KeptLine, text: &mut KeptText) -> Result<LineFound, Failed>
         ensures found { IfOk result (λ found.
             TakesInto found self.old.ahead self.new.ahead line.new text.old text.new) }
         ensures number { IfOk result (λ found. self.new.lines ≡ next_number found self.old.lines) }
@@ -105,14 +105,14 @@ impl<R: Read, L: Ledger> CountedReader<R, L> {
         ensures drawn { OnErr result (IsDrawn R.remaining self.new) }
     {
         let found = line.read(&mut self.source, &mut self.input, text)?;
-        if found != Found::End {
+        if found != LineFound::End {
             self.lines += 1;
         }
         Ok(found)
     }
 
     /// Takes the next line, if there is one. It fails where a read failed or 2^64 - 1 bytes came.
-    pub fn next_line(&mut self, line: &mut KeptLine) -> Result<Found, Failed>
+    pub fn next_line(&mut self, line: &mut KeptLine) -> Result<LineFound, Failed>
         ensures found { IfOk result (λ found. FindsLine found self.old.ahead self.new.ahead line.new) }
         ensures number { IfOk result (λ found. self.new.lines ≡ next_number found self.old.lines) }
         ensures worked { OnOk result (self.new.failures ≡ self.old.failures) }
@@ -123,7 +123,7 @@ impl<R: Read, L: Ledger> CountedReader<R, L> {
             (FailsOrFull self.old.failures self.new.failures self.new.given) }
         ensures drawn { OnErr result (IsDrawn R.remaining self.new) }
     {
-        self.take_line(line, &mut Text::unkept())
+        self.take_line(line, &mut KeptText::unkept())
     }
 
     /// Takes the lines of a text up to the line `end`. It fails where a read failed or 2^64 - 1
@@ -139,14 +139,14 @@ impl<R: Read, L: Ledger> CountedReader<R, L> {
             (FailsOrFull self.old.failures self.new.failures self.new.given) }
         ensures drawn { OnErr result (IsDrawn R.remaining self.new) }
     {
-        let mut text = Text::new(alloc);
+        let mut text = KeptText::new(alloc);
         'text: loop {
             let before = text.len();
             let found = self.take_line(line, &mut text)?;
-            if found == Found::End {
+            if found == LineFound::End {
                 return Ok(TextFound::NoEnd);
             }
-            let last = found == Found::Last;
+            let last = found == LineFound::Last;
             if line.is_end() {
                 text.truncate(before);
                 return Ok(TextFound::Ended { text, last });

@@ -1,9 +1,9 @@
 -- Squares round the origin: with more room round them, and some generations later.
 use Rattle.step_engine.proofs.Names.{IsCentred, IsIn, LiesWithin, List, Square, World, ap, arith, cell, edge, ints, iterate, neg_ℤ, nine_zeros, one, padded, pos, refl, step, subst, suc, zero, ℕ, ℤ, ◌+ℤ◌, ◌+◌, ◌<◌, ◌^◌, ◌∙◌, ◌≡◌, ◌≤ℤ◌, ◌≤◌}
 use Rattle.worlds.specs.Square.{empty_square, square_at}
-use Rattle.hash_life.specs.Result.{result}
-use Rattle.hash_life.proofs.Shared.Grids.{same_square, joined, sixteen}
-use Rattle.hash_life.proofs.Shared.Steps.{result-steps}
+use Rattle.hash_life_laws.specs.Result.{result}
+use Rattle.hash_life_laws.proofs.Shared.Grids.{same_square, joined, sixteen}
+use Rattle.hash_life_laws.proofs.Shared.Steps.{result-steps}
 
 -- where no cell is live the square is empty
 square_at-empty : (w : World) (k : ℕ) (x y : ℤ) → ((a b : ℤ) → IsIn (2 ^ k) x y a b → 0 < cell w a b → ⊥) → square_at w k x y ≡ empty_square k

@@ -4,7 +4,7 @@ use Rattle.step_engine.proofs.Names.{◌≡◌, ◌≤◌}
 use Rattle.worlds.specs.Iterate.{iterate}
 use Rattle.worlds.specs.Square as squares
 use Rattle.worlds.specs.Square.{square_at}
-use Rattle.hash_life.specs.Puts.{IsBelow}
+use Rattle.hash_life_laws.specs.Puts.{IsBelow}
 
 -- the states of a square of a world
 IsBelow-square_at : (c : ℕ) (w : World) (k : ℕ) (x y : ℤ) → AllBelow c w → IsBelow c (square_at w k x y)

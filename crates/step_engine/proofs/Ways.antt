@@ -4,9 +4,9 @@ use Rattle.std.proofs.Common.{⊎_elim}
 use Rattle.std.specs.Prelude.{◌++◌, flat_map, map}
 use Rattle.std.specs.List.{AllByRecursion as Each}
 use Rattle.std.proofs.lemmas.List.Elements.{All-contains_itself, All-from_recursion, recursion_from_All}
-use Rattle.hash_life.specs.Makes.{Makes}
-use Rattle.hash_life.specs.Puts.{nine_of, fours_of}
-use Rattle.hash_life.specs.Result.{result}
+use Rattle.hash_life_laws.specs.Makes.{Makes}
+use Rattle.hash_life_laws.specs.Puts.{nine_of, fours_of}
+use Rattle.hash_life_laws.specs.Result.{result}
 use Rattle.square_table.specs.Made.{HasEmpty, HoldsWithin}
 use Rattle.step_engine.specs.Evolved.{EachWayIsThere}
 

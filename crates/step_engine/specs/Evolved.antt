@@ -3,7 +3,7 @@ use Rattle.std.specs.Prelude.{◌≡◌, ◌≢◌, ℕ, suc, ◌≤◌, ◌^◌
 use Rattle.worlds.specs.World.{World}
 use Rattle.worlds.specs.Range.{HasMargin, AllBelow}
 use Rattle.worlds.specs.Square.{Square, square_at}
-use Rattle.hash_life.specs.Makes.{Makes}
+use Rattle.hash_life_laws.specs.Makes.{Makes}
 use Rattle.square_table.specs.Centred.{edge}
 use Rattle.square_table.specs.Made.{HasStart}
 use Rattle.step_engine.specs.Reach.{IsRoomLevel}

@@ -1,7 +1,7 @@
 //! Squares by their live cells, and what a call has to know of them.
 ghost use Rattle.std.specs.Prelude.{◌≡◌, ◌<◌, ◌≤◌, ◌+◌, length, IsTrue};
 ghost use Rattle.square_table.specs.Squares.{IsNumber, square_in, first_number};
-ghost use Rattle.hash_life.specs.Puts.{IsBelow};
+ghost use Rattle.hash_life_laws.specs.Puts.{IsBelow};
 
 use square_table::{SquareTable, TableFault};
 
@@ -65,7 +65,7 @@ pub fn is_number(table: &SquareTable<'_>, level: u8, number: u32) -> bool
 }
 
 /// Whether each state of a square of the level is below a number.
-#[tactic(auto, unfolding(square_table::specs::Squares::IsNumber, square_table::specs::Squares::square_in, hash_life::specs::Puts::IsBelow))]
+#[tactic(auto, unfolding(square_table::specs::Squares::IsNumber, square_table::specs::Squares::square_in, hash_life_laws::specs::Puts::IsBelow))]
 pub fn is_below(table: &SquareTable<'_>, level: u8, number: u32, count: u16) -> bool
     requires { IsNumber table.now.rows level number }
     ensures { IsTrue result → IsBelow count (square_in table.now.rows level number) }

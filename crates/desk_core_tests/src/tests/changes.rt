@@ -48,7 +48,7 @@ fn push_cell(rt: &impl Abort, cells: &mut Vec<CellSet>, row: &Row) {
     cells.push(cell).expect(rt, "memory");
 }
 
-fn cells_of(rt: &impl Abort, alloc: Global, rows: &[Row]) -> Listing<CellSet> {
+fn cells_set(rt: &impl Abort, alloc: Global, rows: &[Row]) -> Listing<CellSet> {
     let mut cells = Vec::new(alloc);
     for row in rows {
         push_cell(rt, &mut cells, row);
@@ -74,13 +74,13 @@ pub(super) fn edit_of(rt: &impl Abort, alloc: Global, change: Change) -> Edit {
     match change {
         Change::Rule => Edit::ReplaceRule(rule_x(rt, alloc)),
         Change::Set(rows) => Edit::SetCells {
-            cells: cells_of(rt, alloc, rows),
+            cells: cells_set(rt, alloc, rows),
         },
         Change::Insert(generation) => {
-            Edit::insert_intervention(0, generation, cells_of(rt, alloc, &[(0, 0, 1)]))
+            Edit::insert_intervention(0, generation, cells_set(rt, alloc, &[(0, 0, 1)]))
         }
         Change::Repeat { first, every, last } => {
-            Edit::insert_repeat(0, first, every, last, cells_of(rt, alloc, &[(0, 0, 1)]))
+            Edit::insert_repeat(0, first, every, last, cells_set(rt, alloc, &[(0, 0, 1)]))
         }
         Change::Remove(id) => Edit::RemoveIntervention { id },
         Change::Mark(generation) => counts_at(0, generation),

@@ -2,14 +2,14 @@
 ghost use Rattle.std.specs.Prelude.{◌≡◌};
 
 use desk_core::{Entries, Job, Post, Received, Sent};
-use revision_jobs::History;
+use revision_jobs::PostRecord;
 
 /// A post that takes every job and never answers one.
 #[derive(Drop)]
 pub(super) struct LosingPost<'a> {
     entries: &'a Entries,
     floor: u64,
-    history: History,
+    history: PostRecord,
 }
 
 impl<'a> LosingPost<'a> {
@@ -19,7 +19,7 @@ impl<'a> LosingPost<'a> {
         LosingPost {
             entries,
             floor: 0,
-            history: History::none(),
+            history: PostRecord::none(),
         }
     }
 }
@@ -64,7 +64,7 @@ impl<'a> Post for LosingPost<'a> {
 pub(super) struct RefusingPost<'a> {
     entries: &'a Entries,
     is_closed: bool,
-    history: History,
+    history: PostRecord,
 }
 
 impl<'a> RefusingPost<'a> {
@@ -74,7 +74,7 @@ impl<'a> RefusingPost<'a> {
         RefusingPost {
             entries,
             is_closed,
-            history: History::none(),
+            history: PostRecord::none(),
         }
     }
 }

@@ -3,7 +3,7 @@ ghost use Rattle.std.specs.Prelude.{◌≡◌};
 ghost use Rattle.revision_jobs.specs.Posted.{IsReceived};
 
 use desk_core::{Answer, Entries, InlinePost, Job, Post, Received, Sent};
-use revision_jobs::History;
+use revision_jobs::PostRecord;
 use std::alloc::Global;
 use std::marker::Model;
 
@@ -31,7 +31,7 @@ pub(super) struct Unruly<'a> {
     last: Option<Answer>,
     deeds: &'static [Deed],
     floor: u64,
-    history: History,
+    history: PostRecord,
 }
 
 impl<'a> Model for Unruly<'a> {
@@ -91,7 +91,7 @@ impl<'a> Unruly<'a> {
             last: None,
             deeds,
             floor: 0,
-            history: History::none(),
+            history: PostRecord::none(),
         }
     }
 

@@ -1,6 +1,6 @@
 -- Lines of edits, read back.
 use Rattle.desk_script.proofs.Names.{AddBookmark, AddBranch, All, AllByRecursion, AreCounts, AreWritten, Asked, Between, CellSet, Edit, EditLinesReadBack, Every, FitsSigned, Insert, IsCount, IsWrittenCell, IsWrittenView, List, None, Once}
-use Rattle.desk_script.proofs.Names.{ReadsBack, RemoveBookmark, RemoveBranch, RemoveIntervention, Some, View, [], alone, ap, append-nil, append_assoc, ap₂, arith, asked_by, asked_of, asks, before, cell_of, cell_words, cells_of, cells_set}
+use Rattle.desk_script.proofs.Names.{ReadsBack, RemoveBookmark, RemoveBranch, RemoveIntervention, Some, View, [], alone, ap, append-nil, append_assoc, ap₂, arith, asked_by, asked_of, asks, before, cell_of, cell_words, cells_said, cells_set}
 use Rattle.desk_script.proofs.Names.{codes, command_of_words, count_of, decimal, edit_line, false, flat_map, format_of_words, full_line, is_passed_over, is_word, length, lines_until, list_all, negsuc, option_map, pos, refl, subst, suc, sym}
 use Rattle.desk_script.proofs.Names.{true, view_of, view_words, w64, words, ℕ, ℤ, ◌++◌, ◌+◌, ◌-◌, ◌<◌, ◌==◌, ◌^◌, ◌∙◌, ◌∷◌, ◌≡◌, ◌≤◌}
 use Rattle.std.specs.Fmt.{signed_decimal}
@@ -132,7 +132,7 @@ cell-read : (c : CellSet) → IsWrittenCell c
     → cell_of (signed_decimal c.x) (signed_decimal c.y) (decimal c.state) ≡ Some c
 cell-read c h = grind (arith, reads-signed, reads-up_to)
 
-cells-read : (cs : List CellSet) → AllByRecursion IsWrittenCell cs → cells_of (words_of_cells cs) ≡ Some cs
+cells-read : (cs : List CellSet) → AllByRecursion IsWrittenCell cs → cells_said (words_of_cells cs) ≡ Some cs
 cells-read [] h = refl
 cells-read (c ∷ cs) h = ap₂ before (cell-read c h.0) (cells-read cs h.1)
 

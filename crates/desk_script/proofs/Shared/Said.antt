@@ -1,6 +1,6 @@
 -- Which edits lines ask for.
 use Rattle.desk_script.proofs.Names.{AddBranch, AllByRecursion, Ask, Asked, Between, Bool, Broken, CellSet, Change, Command, Edit, End, Ended, Format, IfSome, InText, Insert, IsCount, IsWrittenDistance, Line, LinePlace, List, None, Obey}
-use Rattle.desk_script.proofs.Names.{Option, ReplaceRule, Some, Take, View, [], acting_of, adds_branch, alone, arith, asked_at, asked_by, asked_of, asks, bytes_eq, cells_of, cells_set, change_of, codes, command_of}
+use Rattle.desk_script.proofs.Names.{Option, ReplaceRule, Some, Take, View, [], acting_of, adds_branch, alone, arith, asked_at, asked_by, asked_of, asks, bytes_eq, cells_said, cells_set, change_of, codes, command_of}
 use Rattle.desk_script.proofs.Names.{command_of_words, cond, counted, edit_by, edit_in_branch, edit_in_named, false, format_of, further_edit_by, inserted, is_end, is_passed_over, length, looking_by, min, on_of, once_by, once_of, one_count, option_map, option_zip}
 use Rattle.desk_script.proofs.Names.{place_behind, repeated_by, repeated_of, some_cells, true, view_of, words, ℕ, ◌++◌, ◌+◌, ◌-◌, ◌<◌, ◌^◌, ◌∷◌, ◌≡◌}
 use Rattle.std.specs.Prelude.{⊤}
@@ -41,7 +41,7 @@ cells-if b o = grind (arith)
 
 cells-some : (ws : List (List ℕ)) → IfSome (cells_set ws) (λ cs. 0 < length cs)
 cells-some [] = tt
-cells-some (word ∷ rest) = cells-if (bytes_eq word (codes "set")) (cells_of rest)
+cells-some (word ∷ rest) = cells-if (bytes_eq word (codes "set")) (cells_said rest)
 
 count-small : (o : Option ℕ) → IfSome (option_map (λ n. min n (2 ^ 64 - 1)) o) IsCount
 count-small o = grind (arith)
@@ -137,7 +137,7 @@ edit-says : (word : List ℕ) (rest : List (List ℕ)) → SaysSuch (bytes_eq wo
 edit-says word rest =
     let adds = bytes_eq word (codes "branch") in
     edit-if adds (bytes_eq word (codes "set")) (bytes_eq word (codes "on")) (bytes_eq word (codes "change"))
-    (bytes_eq word (codes "drop")) (some_cells (cells_of rest)) (one_count rest) (on_of rest) (change_of rest)
+    (bytes_eq word (codes "drop")) (some_cells (cells_said rest)) (one_count rest) (on_of rest) (change_of rest)
     (further_edit_by word rest) (on-says adds rest) (change-says adds rest) (further-says word rest)
 
 -- the same of a command

@@ -8,7 +8,7 @@ use crate::tests::{SQUARES, same};
 use desk_board::{Publisher, Seen, Viewer, board, snapshot};
 use desk_core::Desk;
 use desk_server::{
-    Bell, CountedReader, CountedWriter, Entries, InlinePost, Post, RunFault, run_seen,
+    CountedReader, CountedWriter, Entries, InlinePost, Listener, Post, RunFault, run_seen,
 };
 use revision_jobs::{Job, Received, Sent};
 use std::alloc::{AllocFailed, Global};
@@ -85,8 +85,8 @@ fn look(viewer: Option<Viewer>, seen: &mut Vec<u8>) -> Option<Viewer> {
     }
 }
 
-/// A bell that looks whenever it rings.
-impl Bell for Looks {
+/// A listener that looks whenever it rings.
+impl Listener for Looks {
     fn waits(&mut self) {
         self.viewer = look(self.viewer.take(), &mut self.seen);
     }
@@ -133,7 +133,7 @@ fn answer_shown<P: Post, B: Wait, L: Ledger, M: Ledger>(
     script: &[u8],
     post: &mut P,
     publisher: &mut Publisher<B>,
-    bell: &mut impl Bell,
+    listener: &mut impl Listener,
     reader_blank: Blank,
     writer_blank: Blank,
 ) -> (Result<u64, RunFault>, Vec<u8>)
@@ -158,7 +158,7 @@ fn answer_shown<P: Post, B: Wait, L: Ledger, M: Ledger>(
         &mut writer,
         post,
         publisher,
-        bell,
+        listener,
     );
     (answered, writer.into_inner().taken)
 }
@@ -171,7 +171,7 @@ fn answer_alone<P: Post, B: Wait>(
     script: &[u8],
     post: &mut P,
     publisher: &mut Publisher<B>,
-    bell: &mut impl Bell,
+    listener: &mut impl Listener,
 ) -> (Result<u64, RunFault>, Vec<u8>)
     requires { IsFresh (P.view post.old) entries.now }
 {
@@ -182,7 +182,7 @@ fn answer_alone<P: Post, B: Wait>(
         script,
         post,
         publisher,
-        bell,
+        listener,
         Blank::new(1),
         Blank::new(1),
     )
@@ -202,7 +202,7 @@ fn the_first_script_before_two_viewers(rt: HostRuntime) {
     let one = thread::spawn(&rt, move || watch(one)).expect(&rt, "a thread");
     let other = thread::spawn(&rt, move || watch(other)).expect(&rt, "a thread");
     let mut post = InlinePost::new(alloc, &entries, SQUARES);
-    let mut bell = Looks {
+    let mut listener = Looks {
         viewer: None,
         seen: Vec::new(alloc),
     };
@@ -213,7 +213,7 @@ fn the_first_script_before_two_viewers(rt: HostRuntime) {
         FIRST,
         &mut post,
         &mut publisher,
-        &mut bell,
+        &mut listener,
         Blank::new(1),
         Blank::new(1),
     );
@@ -246,7 +246,7 @@ fn a_settling_is_shown_answer_by_answer(rt: HostRuntime) {
         viewer: viewers.pop(),
         seen: Vec::new(alloc),
     };
-    let mut bell = Looks {
+    let mut listener = Looks {
         viewer: viewers.pop(),
         seen: Vec::new(alloc),
     };
@@ -257,7 +257,7 @@ fn a_settling_is_shown_answer_by_answer(rt: HostRuntime) {
         THREE_JOBS,
         &mut post,
         &mut publisher,
-        &mut bell,
+        &mut listener,
     );
     same(&rt, &answered, &Ok(0), &"answered");
     let replies: &[u8] = b"ok 1\nok 2 bookmark 1\nok 3 bookmark 2\nsettled\nbye\n";
@@ -267,7 +267,7 @@ fn a_settling_is_shown_answer_by_answer(rt: HostRuntime) {
     same(&rt, &post.seen.as_slice(), &answers, &"answers");
     // Before the settling, and behind its last answer.
     let rung: &[u8] = b"4--\n8++\n";
-    same(&rt, &bell.seen.as_slice(), &rung, &"rung");
+    same(&rt, &listener.seen.as_slice(), &rung, &"rung");
     same(&rt, &publisher.receipt().position(), &9, &"position");
     publisher.end();
 }

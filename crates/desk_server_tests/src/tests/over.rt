@@ -6,7 +6,7 @@ use crate::tests::devices::Pieces;
 use crate::tests::posts::{Closes, Repeats, Reverses, Swallows};
 use crate::tests::{SQUARES, answer_over, same};
 use desk_server::{Entries, InlinePost, Post};
-use revision_jobs::History;
+use revision_jobs::PostRecord;
 use std::alloc::Global;
 use std::process::Abort;
 use std::sync::Wait;
@@ -55,7 +55,7 @@ fn swallows(
         entries: &entries,
         floor: 0,
         ended,
-        history: History::none(),
+        history: PostRecord::none(),
     };
     answers_over(rt, alloc, &entries, &mut post, script, replies, floor);
 }
@@ -87,7 +87,7 @@ fn closes(
     let mut post = Closes {
         inner: InlinePost::new(alloc, &entries, SQUARES),
         left,
-        history: History::none(),
+        history: PostRecord::none(),
     };
     answers_over(rt, alloc, &entries, &mut post, script, replies, floor);
 }
@@ -120,7 +120,7 @@ fn answers_may_come_in_another_order(rt: HostRuntime) {
         first: InlinePost::new(alloc, &entries, SQUARES),
         last: InlinePost::new(alloc, &entries, SQUARES),
         floor: 0,
-        history: History::none(),
+        history: PostRecord::none(),
     };
     answers_over(&rt, alloc, &entries, &mut post, SCRIPT, SETTLED, 3);
 }

@@ -2,7 +2,7 @@
 ghost use Rattle.std.specs.Prelude.{◌≡◌, ◌≤◌};
 
 use desk_server::{Entries, InlinePost, Post};
-use revision_jobs::{Answer, History, Job, Received, Sent};
+use revision_jobs::{Answer, Job, PostRecord, Received, Sent};
 use std::alloc::Global;
 use std::marker::Model;
 
@@ -12,7 +12,7 @@ pub struct Swallows<'a> {
     pub entries: &'a Entries,
     pub floor: u64,
     pub ended: bool,
-    pub history: History,
+    pub history: PostRecord,
 }
 
 impl<'a> Post for Swallows<'a> {
@@ -60,7 +60,7 @@ impl<'a> Post for Swallows<'a> {
 pub struct Closes<'a> {
     pub inner: InlinePost<'a>,
     pub left: u32,
-    pub history: History,
+    pub history: PostRecord,
 }
 
 impl<'a> Post for Closes<'a> {
@@ -112,7 +112,7 @@ impl<'a> Post for Closes<'a> {
 pub struct Repeats<'a> {
     inner: InlinePost<'a>,
     again: Option<Answer>,
-    history: History,
+    history: PostRecord,
 }
 
 impl<'a> Model for Repeats<'a> {
@@ -148,7 +148,7 @@ impl<'a> Repeats<'a> {
         Repeats {
             inner: InlinePost::new(alloc, entries, squares),
             again: None,
-            history: History::none(),
+            history: PostRecord::none(),
         }
     }
 }
@@ -191,7 +191,7 @@ pub struct Reverses<'a> {
     pub first: InlinePost<'a>,
     pub last: InlinePost<'a>,
     pub floor: u64,
-    pub history: History,
+    pub history: PostRecord,
     ghost same: { (last.table ≡ first.table) × (last.limit ≡ first.limit) },
     ghost below: { (first.floor ≤ floor) × (last.floor ≤ floor) },
 }

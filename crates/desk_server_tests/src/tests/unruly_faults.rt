@@ -3,7 +3,7 @@ use crate::tests::devices::{Narrow, Pieces};
 use crate::tests::posts::{Repeats, Swallows};
 use crate::tests::{SQUARES, answer_over, same};
 use desk_server::{Entries, RunFault};
-use revision_jobs::History;
+use revision_jobs::PostRecord;
 use std::alloc::Global;
 use std::process::Abort;
 use std::sync::Wait;
@@ -38,7 +38,7 @@ fn answer(
             entries: &entries,
             floor: 0,
             ended: true,
-            history: History::none(),
+            history: PostRecord::none(),
         };
         answer_over(rt, alloc, &entries, &mut post, pieces, narrow)
     };

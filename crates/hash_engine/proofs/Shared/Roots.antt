@@ -1,7 +1,7 @@
 -- The square whose result a search begins with.
 use Rattle.hash_engine.proofs.Names.{CanBeAsked, CanSeek, Contains, IsRightMemo, KeepsOnWay, List, Makes, Memo, Table, ap, ap₂, arith, cells_of, level_of, number_of, sought, square_in, subst, suc, sym, ℕ, ◌-◌, ◌≡◌, ◌≤◌}
 use Rattle.square_table.specs.declared.square.Square as handles
-use Rattle.hash_life.proofs.Shared.Below as states
+use Rattle.hash_life_laws.proofs.Shared.Below as states
 use Rattle.hash_engine.specs.Adding.{GrowsOnWay}
 use Rattle.hash_engine.proofs.Standing.{below_some}
 

@@ -1,7 +1,7 @@
 ghost use Rattle.std.specs.Prelude.{◌≡◌};
 ghost use Rattle.revision_jobs.specs.Entries.{IsOf};
 
-use super::{cells_of, plane_of, push_from_one, push_step, push_view, same, shared, table};
+use super::{cells_set, plane_of, push_from_one, push_step, push_view, same, shared, table};
 use basics::{Listing, Refusal};
 use bookmarks::View;
 use plane_core::{NoStop, Plane, Stop};
@@ -78,7 +78,7 @@ fn lays_before_it_steps(rt: HostRuntime) {
     let alloc = rt.alloc();
     let entries = table(&rt, alloc);
     let from = shared(&rt, alloc, plane_of(&rt, alloc, &[(-1, 0, 1), (1, 0, 1)]));
-    let cells = cells_of(&rt, alloc, &[(1, 0, 1), (1, 0, 0)]);
+    let cells = cells_set(&rt, alloc, &[(1, 0, 1), (1, 0, 0)]);
     let place = push_step(&rt, alloc, &entries, from, cells, 1);
     let plane = plane_in(&rt, worked(alloc, &entries, 0, place));
     assert!(rt; plane.equals(&plane_of(&rt, alloc, &[(-2, 0, 1), (0, 0, 1)])));
@@ -95,7 +95,7 @@ fn expect_view<R: Abort + Wait>(
 ) {
     let entries = table(rt, alloc);
     let from = shared(rt, alloc, plane_of(rt, alloc, from));
-    let cells = cells_of(rt, alloc, cells);
+    let cells = cells_set(rt, alloc, cells);
     let place = push_view(rt, alloc, &entries, view, from, cells, 2);
     expect_text(rt, worked(alloc, &entries, 0, place), wanted);
 }
@@ -146,7 +146,7 @@ fn texts_again(rt: HostRuntime) {
     let alloc = rt.alloc();
     let entries = table(&rt, alloc);
     let from = shared(&rt, alloc, plane_of(&rt, alloc, &[(-4, 0, 1), (4, 0, 1)]));
-    let none = cells_of(&rt, alloc, &[]);
+    let none = cells_set(&rt, alloc, &[]);
     let place = push_view(&rt, alloc, &entries, View::Counts, from, none, 4);
     let answer = worked(alloc, &entries, 1, place);
     expect_text(&rt, answer.again().expect(&rt, "memory"), "1 2\n");

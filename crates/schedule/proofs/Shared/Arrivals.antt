@@ -1,16 +1,16 @@
 -- What arrives at the generations of branches, by the branch before and the generation before.
-use Rattle.schedule.proofs.Names.{Bool, Branch, CellSet, History, List, World, [], ap, arith, arrive-gap, arrive-zero, branch_id, cond-false, element_at, false, fork_of, lay, nat_le, nat_lt, nat_tests, parent_of, refl, step, subst, suc}
+use Rattle.schedule.proofs.Names.{Bool, Branch, CellSet, Evolution, List, World, [], ap, arith, arrive-gap, arrive-zero, branch_id, cond-false, element_at, false, fork_of, lay, nat_le, nat_lt, nat_tests, parent_of, refl, step, subst, suc}
 use Rattle.schedule.proofs.Names.{sym, zero, ℕ, ◌&&◌, ◌+◌, ◌-◌, ◌<◌, ◌==◌, ◌∙◌, ◌≡◌, ◌≤◌}
 use Rattle.worlds.specs.Iterate.{iterate}
 use Rattle.worlds.specs.Arrival as line
-use Rattle.schedule.specs.History.{arrive, is_felt}
+use Rattle.schedule.specs.Evolution.{arrive, is_felt}
 
 -- each parent has a lesser id
 abbrev pub ParentsComeBefore : List Branch → Type 0
 ParentsComeBefore branches = (b : ℕ) → 0 < b → parent_of branches b < b
 
 -- what leaves the parent of a branch at its fork
-abbrev left : History → ℕ → ℕ → World
+abbrev left : Evolution → ℕ → ℕ → World
 left h n b = lay (h.cells (parent_of h.branches b) (fork_of h.branches b))
     (arrive h n (parent_of h.branches b) (fork_of h.branches b))
 
@@ -18,20 +18,20 @@ above_zero : (n : ℕ) → (suc n == 0) ≡ false
 above_zero n = grind (arith, nat_tests)
 
 -- what arrives in branch 0
-pub arrive-root : (h : History) (n g : ℕ) → arrive h n 0 g ≡ line.arrive h.next (h.cells 0) h.start g
+pub arrive-root : (h : Evolution) (n g : ℕ) → arrive h n 0 g ≡ line.arrive h.next (h.cells 0) h.start g
 unfolding arrive
 arrive-root h zero g = refl
 arrive-root h (suc n) g = refl
 
 -- what arrives in another
-pub arrive-branch : (h : History) (n b g : ℕ) → (b == 0) ≡ false
+pub arrive-branch : (h : Evolution) (n b g : ℕ) → (b == 0) ≡ false
     → arrive h (suc n) b g ≡ line.arrive h.next (λ k. h.cells b (fork_of h.branches b + k)) (left h n b)
     (g - fork_of h.branches b)
 unfolding arrive
 arrive-branch h n b g other = cond-false (b == 0) _ _ other
 
 -- a bound on the number of branches back to branch 0 is as good as any other
-pub arrive-enough : (h : History) → ParentsComeBefore h.branches → (n m b g : ℕ) → b ≤ n → b ≤ m
+pub arrive-enough : (h : Evolution) → ParentsComeBefore h.branches → (n m b g : ℕ) → b ≤ n → b ≤ m
     → arrive h n b g ≡ arrive h m b g
 unfolding arrive
 arrive-enough h parents zero zero b g low few = refl
@@ -43,7 +43,7 @@ arrive-enough h parents (suc n) (suc m) b g low few =
     grind (arith, nat_tests, before, rest)
 
 -- at its fork a branch has what leaves its parent
-pub arrive-fork : (h : History) → ParentsComeBefore h.branches → (b : ℕ) → 0 < b
+pub arrive-fork : (h : Evolution) → ParentsComeBefore h.branches → (b : ℕ) → 0 < b
     → arrive h b b (fork_of h.branches b) ≡ lay (h.cells (parent_of h.branches b) (fork_of h.branches b))
     (arrive h (parent_of h.branches b) (parent_of h.branches b) (fork_of h.branches b))
 arrive-fork h parents zero above = absurd (omega (arith, above))
@@ -58,7 +58,7 @@ arrive-fork h parents (suc n) above =
     ∙ ap (lay (h.cells q f)) (arrive-enough h parents n q q f (omega (arith, before)) (omega arith))
 
 -- where a branch lays nothing within a gap, the end is that many steps from what left the beginning
-pub arrive-undisturbed : (h : History) (b g n : ℕ) → fork_of h.branches b ≤ g
+pub arrive-undisturbed : (h : Evolution) (b g n : ℕ) → fork_of h.branches b ≤ g
     → ((k : ℕ) → g < k → k < g + suc n → h.cells b k ≡ [])
     → arrive h b b (g + suc n) ≡ iterate (suc n) (step h.next) (lay (h.cells b g) (arrive h b b g))
 arrive-undisturbed h zero g n late quiet =
@@ -127,14 +127,14 @@ pub record AreEarlier (branches : List Branch) (Counts Leaves : ℕ → ℕ → 
   pub arrives : (b g : ℕ) → Leaves b g → Counts b g
 
 -- cells that give each generation that counts the same world don't matter for those
-pub arrive-alike : (h : History) (others : ℕ → ℕ → List CellSet) (Counts Leaves : ℕ → ℕ → Type 0)
+pub arrive-alike : (h : Evolution) (others : ℕ → ℕ → List CellSet) (Counts Leaves : ℕ → ℕ → Type 0)
     → ParentsComeBefore h.branches → AreEarlier h.branches Counts Leaves → fork_of h.branches 0 ≡ 0
     → ((b : ℕ) → fork_of h.branches (parent_of h.branches b) ≤ fork_of h.branches b)
     → ((b g : ℕ) → fork_of h.branches b ≤ g → Leaves b g
     → lay (h.cells b g) (arrive h b b g) ≡ lay (others b g) (arrive h b b g))
     → (n b g : ℕ) → b ≤ n → Counts b g → arrive h n b g ≡ arrive (record h { cells = others }) n b g
 arrive-alike h others Counts Leaves parents before root rise same n zero g le counts =
-    let o : History = record h { cells = others } in
+    let o : Evolution = record h { cells = others } in
     arrive-root h n g
     ∙ line-alike h.next (h.cells 0) (others 0) h.start g
     (λ k low. subst (λ w. lay (h.cells 0 k) w ≡ lay (others 0 k) w) (arrive-root h 0 k)
@@ -142,7 +142,7 @@ arrive-alike h others Counts Leaves parents before root rise same n zero g le co
     ∙ sym (arrive-root o n g)
 arrive-alike h others Counts Leaves parents before root rise same zero (suc b) g le counts = absurd (omega (arith, le))
 arrive-alike h others Counts Leaves parents before root rise same (suc n) (suc m) g le counts =
-    let o : History = record h { cells = others } in
+    let o : Evolution = record h { cells = others } in
     let b = suc m in
     let q = parent_of h.branches b in
     let f = fork_of h.branches b in
@@ -167,7 +167,7 @@ arrive-alike h others Counts Leaves parents before root rise same (suc n) (suc m
     ∙ sym (arrive-branch o n b g other)
 
 -- what another list of branches says of the branches on the way back alone matters
-pub arrive-elsewhere : (h : History) (others : List Branch) (Stays : ℕ → Type 0)
+pub arrive-elsewhere : (h : Evolution) (others : List Branch) (Stays : ℕ → Type 0)
     → ((b : ℕ) → Stays b → Stays (parent_of h.branches b))
     → ((b : ℕ) → Stays b → element_at branch_id others b ≡ element_at branch_id h.branches b)
     → (n b g : ℕ) → Stays b → arrive h n b g ≡ arrive (record h { branches = others }) n b g

@@ -1,6 +1,6 @@
 -- What is felt, going back from a branch to its parent.
 use Rattle.schedule.proofs.Names.{Branch, List, arith, false, fork_of, nat_lt, nat_tests, parent_of, refl, suc, zero, ℕ, ◌&&◌, ◌+◌, ◌==◌, ◌≡◌, ◌≤◌}
-use Rattle.schedule.specs.History.{is_felt}
+use Rattle.schedule.specs.Evolution.{is_felt}
 use Rattle.schedule.proofs.Shared.Arrivals.{ParentsComeBefore}
 
 -- a bound on the number of branches back to branch 0 is as good as any other

@@ -4,7 +4,7 @@ use Rattle.schedule.proofs.Names.{IsInside-less, IsSound, List, Plan, SetBelow, 
 use Rattle.schedule.proofs.Names.{subst, suc, true, zero, ℕ, ◌+◌, ◌-◌, ◌==◌, ◌^◌, ◌∷◌, ◌≡◌, ◌≤◌}
 use Rattle.worlds.specs.Arrival as line
 use Rattle.rule_tree.specs.RuleLaws.{next_of-quiet, next_of-below}
-use Rattle.schedule.specs.History.{arrive}
+use Rattle.schedule.specs.Evolution.{arrive}
 use Rattle.schedule.proofs.Shared.Branches.{forks_near, forks_rise}
 
 own : (P : CellSet → Type 0) (b : Bool) (cs : List CellSet) → AllByRecursion P cs

@@ -1,6 +1,6 @@
 //! Branches: what edits of them answer, and in which order they are refused.
 use super::{
-    EDGE, FAR, Window, apply, cells_of, mark_on, mark_window_on, number, opening, plain, same,
+    EDGE, FAR, Window, apply, cells_set, mark_on, mark_window_on, number, opening, plain, same,
 };
 use schedule::{Branch, Document, Edit, Edited};
 use std::alloc::Global;
@@ -15,11 +15,11 @@ fn remove(branch: u64) -> Edit {
 }
 
 fn insert_on(rt: &impl Abort, alloc: Global, branch: u64, generation: u64, x: i64) -> Edit {
-    Edit::insert_intervention(branch, generation, cells_of(rt, alloc, &[(x, 0, 1)]))
+    Edit::insert_intervention(branch, generation, cells_set(rt, alloc, &[(x, 0, 1)]))
 }
 
 fn change(rt: &impl Abort, alloc: Global, id: u64, generation: u64) -> Edit {
-    Edit::change_intervention(id, generation, cells_of(rt, alloc, &[(0, 0, 1)]))
+    Edit::change_intervention(id, generation, cells_set(rt, alloc, &[(0, 0, 1)]))
 }
 
 fn moved(id: u64, generation: u64) -> Edit {

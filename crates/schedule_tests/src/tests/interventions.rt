@@ -1,6 +1,6 @@
 //! Interventions and bookmarks that move.
 use super::{
-    Cells, EDGE, FAR, FOUR_STATES, Row, THREE_STATES, apply, cells_of, check_edit, mark, number,
+    Cells, EDGE, FAR, FOUR_STATES, Row, THREE_STATES, apply, cells_set, check_edit, mark, number,
     opening, plain, replace, same, set,
 };
 use schedule::{Document, Edit, Edited};
@@ -12,11 +12,11 @@ fn insert(rt: &impl Abort, alloc: Global, generation: u64) -> Edit {
 }
 
 fn insert_cells(rt: &impl Abort, alloc: Global, generation: u64, rows: &[Row]) -> Edit {
-    Edit::insert_intervention(0, generation, cells_of(rt, alloc, rows))
+    Edit::insert_intervention(0, generation, cells_set(rt, alloc, rows))
 }
 
 fn change(rt: &impl Abort, alloc: Global, id: u64, generation: u64, rows: &[Row]) -> Edit {
-    Edit::change_intervention(id, generation, cells_of(rt, alloc, rows))
+    Edit::change_intervention(id, generation, cells_set(rt, alloc, rows))
 }
 
 /// What an accepted edit answers that makes something with an id.

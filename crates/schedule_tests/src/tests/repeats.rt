@@ -1,6 +1,6 @@
 //! Repeating interventions: where they act, how their marks are counted, and why they are refused.
 use super::{
-    EDGE, FAR, FOUR_STATES, Row, apply, cells_of, mark_on, number, opening, replace, same,
+    EDGE, FAR, FOUR_STATES, Row, apply, cells_set, mark_on, number, opening, replace, same,
 };
 use schedule::{Acts, Document, Edit, Intervention};
 use std::alloc::Global;
@@ -10,21 +10,21 @@ use std::process::Abort;
 type Times = (u64, u64, u64);
 
 fn repeat(rt: &impl Abort, alloc: Global, branch: u64, times: Times, rows: &[Row]) -> Edit {
-    let cells = cells_of(rt, alloc, rows);
+    let cells = cells_set(rt, alloc, rows);
     Edit::insert_repeat(branch, times.0, times.1, times.2, cells)
 }
 
 fn change_repeat(rt: &impl Abort, alloc: Global, id: u64, times: Times, rows: &[Row]) -> Edit {
-    let cells = cells_of(rt, alloc, rows);
+    let cells = cells_set(rt, alloc, rows);
     Edit::change_repeat(id, times.0, times.1, times.2, cells)
 }
 
 fn once(rt: &impl Abort, alloc: Global, branch: u64, generation: u64) -> Edit {
-    Edit::insert_intervention(branch, generation, cells_of(rt, alloc, &[(0, 0, 1)]))
+    Edit::insert_intervention(branch, generation, cells_set(rt, alloc, &[(0, 0, 1)]))
 }
 
 fn change_once(rt: &impl Abort, alloc: Global, id: u64, generation: u64) -> Edit {
-    Edit::change_intervention(id, generation, cells_of(rt, alloc, &[]))
+    Edit::change_intervention(id, generation, cells_set(rt, alloc, &[]))
 }
 
 fn fork(parent: u64, generation: u64) -> Edit {

@@ -5,8 +5,8 @@ use Rattle.script_lines.proofs.Names.{refl, subst, sym, take, take-append-le, tr
 use Rattle.std.proofs.Math.Seq.{take-length}
 use Rattle.script_lines.proofs.Shared.Ahead.{takes_then}
 use Rattle.text_lines.specs.Lines.{End, Line}
-use Rattle.script_lines.specs.declared.kept_line.Found.{Found}
-use Rattle.script_lines.specs.declared.kept_line.Found.TheVariants as found
+use Rattle.script_lines.specs.declared.kept_line.LineFound.{LineFound}
+use Rattle.script_lines.specs.declared.kept_line.LineFound.TheVariants as found
 
 -- ---- one line
 
@@ -54,7 +54,7 @@ taken_last old new before after kept seen h g t = (
         ∙ ap (λ m. record { says = trim seen; raw = seen } ∷ lines_until Ended m) (sym f) ∙ ap (λ s. record { says = trim seen; raw = seen } ∷ lines_until s more) (sym e)
 
 -- what was read of a line is a line of the script
-pub takes_into : (found : Found) (old new : Ahead) (before after : Option (List ℕ)) (kept : KeptLine) (seen : List ℕ) → NoLineFeed seen
+pub takes_into : (found : LineFound) (old new : Ahead) (before after : Option (List ℕ)) (kept : KeptLine) (seen : List ℕ) → NoLineFeed seen
     → GrowsText before after (raw_of found seen) → TakesLine found old new seen kept → TakesInto found old new kept before after
 takes_into found.Line old new before after kept seen h g t = taken_line old new before after kept seen h g t
 takes_into found.Last old new before after kept seen h g t = taken_last old new before after kept seen h g t
@@ -78,7 +78,7 @@ line_falls last old new kept t =
     let some : 0 < length t.line.raw = some_raw t.line.raw t.line (t.law Ended [] (follows_none last)) in
     omega (arith, t.taken.counted, some)
 
-pub found_falls : (it : Found) (old new : Ahead) (before after : Option (List ℕ)) (kept : KeptLine) → it ≢ found.End → TakesInto it old new kept before after → new.room < old.room
+pub found_falls : (it : LineFound) (old new : Ahead) (before after : Option (List ℕ)) (kept : KeptLine) → it ≢ found.End → TakesInto it old new kept before after → new.room < old.room
 found_falls found.Line old new before after kept x t = line_falls false old new kept t.0
 found_falls found.Last old new before after kept x t = line_falls true old new kept t.0
 found_falls found.End old new before after kept x t = absurd (x refl)
@@ -88,7 +88,7 @@ some_seen : (seen : List ℕ) → seen ≢ [] → 0 < length seen
 some_seen [] n = absurd (n refl)
 some_seen (b ∷ bs) n = omega arith
 
-pub numbers_line : (it : Found) (old new : Ahead) (seen : List ℕ) (kept : KeptLine) (n : ℕ) → TakesLine it old new seen kept → n + old.room < 2 ^ 64 → next_number it n + new.room < 2 ^ 64
+pub numbers_line : (it : LineFound) (old new : Ahead) (seen : List ℕ) (kept : KeptLine) (n : ℕ) → TakesLine it old new seen kept → n + old.room < 2 ^ 64 → next_number it n + new.room < 2 ^ 64
 numbers_line found.Line old new seen kept n t h = omega (arith, t.0.counted, length-append seen (10 ∷ []), h)
 numbers_line found.Last old new seen kept n t h = let some = some_seen seen t.2 in omega (arith, t.0.counted, some, h)
 numbers_line found.End old new seen kept n t h = omega (arith, t.1.counted, h)
@@ -187,14 +187,14 @@ text_breaks old mid new text n m so s = record {
 
 -- ---- the same by what was found
 
-pub text_goes_on_at : (it : Found) (old mid new : Ahead) (before after : Option (List ℕ)) (kept : KeptLine) (n m k : ℕ) → it ≢ found.End
+pub text_goes_on_at : (it : LineFound) (old mid new : Ahead) (before after : Option (List ℕ)) (kept : KeptLine) (n m k : ℕ) → it ≢ found.End
     → it ≢ found.Last → TakesInto it mid new kept before after → ((says : List ℕ) → Says kept says → false ≡ is_end says) → k ≡ next_number it m
     → TextSoFar old mid before n m → TextSoFar old new after n k
 text_goes_on_at found.Line old mid new before after kept n m k x y t other e so = text_goes_on old mid new before after kept n m k t.0 t.1 (sym (other t.0.line.says t.0.says)) e so
 text_goes_on_at found.Last old mid new before after kept n m k x y t other e so = absurd (y refl)
 text_goes_on_at found.End old mid new before after kept n m k x y t other e so = absurd (x refl)
 
-pub text_ends_at : (it : Found) (last : Bool) (old mid new : Ahead) (before after final : Option (List ℕ)) (kept : KeptLine) (n m k : ℕ)
+pub text_ends_at : (it : LineFound) (last : Bool) (old mid new : Ahead) (before after final : Option (List ℕ)) (kept : KeptLine) (n m k : ℕ)
     → it ≢ found.End → (it ≡ found.Last → last ≡ true) → (it ≡ found.Line → last ≡ false) → final ≡ option_map (take (len_of before)) after
     → TakesInto it mid new kept before after
     → ((says : List ℕ) → Says kept says → true ≡ is_end says) → k ≡ next_number it m → TextSoFar old mid before n m → TextTaken last final old new n k
@@ -206,11 +206,11 @@ text_ends_at found.Last last old mid new before after final kept n m k x y z f t
     e so))
 text_ends_at found.End last old mid new before after final kept n m k x y z f t ends e so = absurd (x refl)
 
-pub text_stops_at : (it : Found) (old mid new : Ahead) (before after : Option (List ℕ)) (kept : KeptLine) (n m : ℕ) → it ≡ found.End
+pub text_stops_at : (it : LineFound) (old mid new : Ahead) (before after : Option (List ℕ)) (kept : KeptLine) (n m : ℕ) → it ≡ found.End
     → TakesInto it mid new kept before after → TextSoFar old mid before n m → NoEndAmong Ended old new × IsAtEnd new.bytes
 text_stops_at it old mid new before after kept n m e t so = text_stops old mid new before n m so (subst (λ v. TakesInto v mid new kept before after) e t)
 
-pub text_stops_last_at : (it : Found) (old mid new : Ahead) (before after : Option (List ℕ)) (kept : KeptLine) (n m : ℕ) → it ≡ found.Last
+pub text_stops_last_at : (it : LineFound) (old mid new : Ahead) (before after : Option (List ℕ)) (kept : KeptLine) (n m : ℕ) → it ≡ found.Last
     → TakesInto it mid new kept before after → ((says : List ℕ) → Says kept says → false ≡ is_end says) → TextSoFar old mid before n m
     → NoEndAmong Ended old new × IsAtEnd new.bytes
 text_stops_last_at it old mid new before after kept n m e t other so =

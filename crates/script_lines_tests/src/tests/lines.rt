@@ -3,7 +3,7 @@ ghost use Rattle.std.specs.Prelude.{◌≡◌, ◌<◌};
 
 use crate::tests::devices::Pieces;
 use crate::tests::same;
-use script_lines::{CountedReader, Found, KeptLine, next_word};
+use script_lines::{CountedReader, KeptLine, LineFound, next_word};
 use std::alloc::Global;
 use std::io::Read;
 use std::marker::Brand;
@@ -54,11 +54,11 @@ pub fn put_lines<R: Read, L: Ledger>(
         let Ok(found) = reader.next_line(line) else {
             return put(rt, shown, b"failed");
         };
-        if found == Found::End {
+        if found == LineFound::End {
             return put(rt, shown, b"end");
         }
         put_line(rt, shown, line);
-        if found == Found::Last {
+        if found == LineFound::Last {
             return put(rt, shown, b"last");
         }
     }
@@ -336,7 +336,7 @@ fn is_read<L: Ledger>(alloc: Global, blank: Blank, row: &Long) -> bool
         // Where the room for every line is refused, nothing was read.
         return true;
     };
-    if reader.next_line(&mut line) != Ok(Found::Last) {
+    if reader.next_line(&mut line) != Ok(LineFound::Last) {
         return false;
     }
     match line.words() {

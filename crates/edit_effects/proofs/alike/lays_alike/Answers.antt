@@ -7,7 +7,7 @@ use Rattle.worlds.specs.Range.{CanBeLaid}
 use Rattle.schedule.specs.Asked.{asked_of}
 use Rattle.schedule.specs.Change.{changed}
 use Rattle.schedule.proofs.Shared.Fits.{CanBeLaid-at, CanBeLaid-changed}
-use Rattle.desk_events.specs.Felt.{cells_of}
+use Rattle.desk_events.specs.Felt.{cells_acting_at}
 use Rattle.edit_effects.specs.CellsAfter.{cells_after}
 use Rattle.edit_effects.proofs.Gathered.{cells_after-is}
 use Rattle.edit_effects.proofs.alike.lays_alike.Goals as goal
@@ -15,11 +15,11 @@ use Rattle.edit_effects.proofs.alike.lays_alike.Goals.{After-as_slice, After-as_
 
 -- the cells before the edit and after it
 
-old_is : (c : After-as_slice) → c.as_slice.result.now ≡ cells_of c.args.document.now.interventions c.args.mark
+old_is : (c : After-as_slice) → c.as_slice.result.now ≡ cells_acting_at c.args.document.now.interventions c.args.mark
 old_is c =
-    c.as_slice.ensures ∙ c.in_ok-old.ensures ∙ ap (λ is. cells_of is c.args.mark) c.interventions-interventions.ensures
+    c.as_slice.ensures ∙ c.in_ok-old.ensures ∙ ap (λ is. cells_acting_at is c.args.mark) c.interventions-interventions.ensures
 
-new_is : (c : After-as_slice-2) → c.as_slice-2.result.now ≡ cells_of
+new_is : (c : After-as_slice-2) → c.as_slice-2.result.now ≡ cells_acting_at
     (changed c.args.document.now (asked_of c.args.edit.now)).plan.interventions c.args.mark
 new_is c =
     c.as_slice-2.ensures ∙ c.in_ok-new.ensures
@@ -49,7 +49,7 @@ alike w before later old new was now b first second laid relaid same =
 pub returns : goal.returns
 returns c =
     alike c.args.arrival.now c.in_ok-before.before c.in_ok-after.after c.as_slice.result.now c.as_slice-2.result.now
-    (cells_of c.args.document.now.interventions c.args.mark)
-    (cells_of (changed c.args.document.now (asked_of c.args.edit.now)).plan.interventions c.args.mark)
+    (cells_acting_at c.args.document.now.interventions c.args.mark)
+    (cells_acting_at (changed c.args.document.now (asked_of c.args.edit.now)).plan.interventions c.args.mark)
     c.equals.result (old_is (goal.at.returns c).After-as_slice) (new_is (goal.at.returns c).After-as_slice-2)
     c.in_ok-before.ensures c.in_ok-after.ensures c.equals.ensures

@@ -1,6 +1,6 @@
 use Rattle.hash_engine.proofs.Names.{All, [], rules, subst, sym, ℕ, ◌<◌, ◌∙◌, ◌∷◌, ◌≡◌}
-use Rattle.hash_life.specs.Puts.{IsBelow}
-use Rattle.hash_life.proofs.Shared.Nine.{All-nine}
+use Rattle.hash_life_laws.specs.Puts.{IsBelow}
+use Rattle.hash_life_laws.proofs.Shared.Nine.{All-nine}
 use Rattle.hash_engine.proofs.parts.ask_four.Goals as goal
 
 -- nine states below a number that is the same

@@ -1,8 +1,8 @@
 use Rattle.std.proofs.Common.{◌≡◌, sym, subst, arith, rules, lit<}
 use Rattle.worlds.specs.Square.{empty_square}
 use Rattle.square_table.specs.Squares.{IsHeld, level_of, cells_of}
-use Rattle.hash_life.specs.Puts.{IsBelow}
-use Rattle.hash_life.proofs.Shared.Below.{IsBelow-empty}
+use Rattle.hash_life_laws.specs.Puts.{IsBelow}
+use Rattle.hash_life_laws.proofs.Shared.Below.{IsBelow-empty}
 use Rattle.counted_engine_tests.proofs.tests.results.the_empty_plane_stays_empty.Goals as goal
 
 pub result-found-requires : goal.result-found-requires

@@ -1,12 +1,12 @@
 use Rattle.std.proofs.Common.{◌≡◌, ◌+◌, ◌∙◌, length, sym, ap, rules}
-use Rattle.desk_board.specs.History.{History}
+use Rattle.desk_board.specs.BoardHistory.{BoardHistory}
 use Rattle.desk_board.specs.Log.{head_of}
 use Rattle.desk_board.proofs.Counting.{adds_moves}
 use Rattle.desk_board.proofs.receipt.Receipt.and.Goals as goal
 
 pub compare_exchange-found-requires : goal.compare_exchange-found-requires
 compare_exchange-found-requires c =
-    let h : c.args.counter.now ≡ head_of c.self.inside.fact.book = c.requires ∙ sym (ap (λ (k : History). head_of k.board) c.self.view_is) in
+    let h : c.args.counter.now ≡ head_of c.self.inside.fact.book = c.requires ∙ sym (ap (λ (k : BoardHistory). head_of k.board) c.self.view_is) in
     let seen : c.again-fact.result.book ≡ c.args.counter.now.book = ap (λ s. s.book) c.again-fact.ensures ∙ sym (ap (λ w. w.book) h) in
     let count : c.self.inside.position ≡ length c.self.inside.fact.log = c.self.invariant in
     let next : c.in_ok-position.position ≡ c.self.inside.position + 1 = search rules in

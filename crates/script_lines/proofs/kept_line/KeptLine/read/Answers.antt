@@ -11,7 +11,7 @@ loop-byte-preserved g c =
     let mid = ahead (g.R.Read.remaining c.loop-byte.reader.inner) c.loop-byte.reader.given c.loop-byte.input in
     let new = ahead (g.R.Read.remaining c.next.new.reader.inner) c.next.new.reader.given c.next.new.self in
     record {
-      reading = reads_on _ _ _ _ _ _ _ _ _ c.in-Some.byte other (takes_byte mid new c.in-Some.byte gives falls) c.push.ensures c.feed.ensures c.loop-byte.invariant.reading;
+      reading = reads_on _ _ _ _ _ _ _ _ _ c.in-Some.byte other (takes_byte mid new c.in-Some.byte gives falls) c.push.ensures c.take_byte.ensures c.loop-byte.invariant.reading;
       worked = c.in_ok-byte.ensures.worked ∙ c.loop-byte.invariant.worked;
     }
 

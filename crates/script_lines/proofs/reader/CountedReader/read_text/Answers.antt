@@ -1,5 +1,5 @@
 use Rattle.script_lines.proofs.Names.{ap, false, option_map, rules, sym, take, true, ◌∙◌, ◌≡◌, ◌≢◌}
-use Rattle.script_lines.specs.declared.kept_line.Found.TheVariants.{End, Last, Line}
+use Rattle.script_lines.specs.declared.kept_line.LineFound.TheVariants.{End, Last, Line}
 use Rattle.script_lines.proofs.Shared.Known.{on_err}
 use Rattle.script_lines.proofs.Shared.Taking.{text_breaks, text_ends_at, text_goes_on_at, text_stops_at, text_stops_last_at, found_falls}
 use Rattle.script_lines.proofs.reader.CountedReader.read_text.Goals as goal

@@ -1,5 +1,0 @@
-use Rattle.document_replay.proofs.Shared.Made.{edits_make_documents}
-use Rattle.document_replay.proofs.laws.edits_make_documents.Goals as goal
-
-pub returns : goal.returns
-returns c = edits_make_documents
