@@ -280,8 +280,10 @@ fn the_version_is_one_line(rt: HostRuntime) {
 }
 
 // Cells far from each other: 64 squares are too few for their step.
-const WIDE: &[u8] =
-    b"set 0 0 1 1000 0 1 3000 7 1 7000 90 1 20000 300 1 -9999 -9999 1\nmark 1 counts\nsettle\n";
+const WIDE: &[u8] = b"\
+    set 0 0 1 1000 0 1 3000 7 1 7000 90 1 20000 300 1 -9999 -9999 1\n\
+    mark 1 counts\n\
+    settle\n";
 
 #[test]
 fn words_choose_the_squares(rt: HostRuntime) {
@@ -294,12 +296,36 @@ fn words_choose_the_squares(rt: HostRuntime) {
 }
 
 // Three bookmarks over cells far from each other, settled twice with an edit between.
-const EDITED: &[u8] =
-    b"set 0 0 1 1000 0 1\nmark 1 counts\nmark 1 rle\nmark 5 counts\nsettle\nat 3 set 7 7 1\nsettle\nshow 1\nshow 3\n";
+const EDITED: &[u8] = b"\
+    set 0 0 1 1000 0 1\n\
+    mark 1 counts\n\
+    mark 1 rle\n\
+    mark 5 counts\n\
+    settle\n\
+    at 3 set 7 7 1\n\
+    settle\n\
+    show 1\n\
+    show 3\n";
 
 // An intervention while the step to generation 8 is worked.
-const WORKED: &[u8] =
-    b"rule\n@RULE X\n@TABLE\nn_states:2\nneighborhood:oneDimensional\nsymmetries:none\n0,1,0,1\n0,0,1,1\n1,0,0,0\n1,1,1,0\nend\nset 0 0 1\nmark 8 counts\nwork\nat 4 set 0 0 1\nsettle\nshow 1\n";
+const WORKED: &[u8] = b"\
+    rule\n\
+    @RULE X\n\
+    @TABLE\n\
+    n_states:2\n\
+    neighborhood:oneDimensional\n\
+    symmetries:none\n\
+    0,1,0,1\n\
+    0,0,1,1\n\
+    1,0,0,0\n\
+    1,1,1,0\n\
+    end\n\
+    set 0 0 1\n\
+    mark 8 counts\n\
+    work\n\
+    at 4 set 0 0 1\n\
+    settle\n\
+    show 1\n";
 
 // The script has these replies with 1, 2 and 8 workers.
 fn any_workers(
@@ -316,11 +342,28 @@ fn any_workers(
 #[test]
 fn any_workers_answer_the_same(rt: HostRuntime) {
     let alloc = rt.alloc();
-    let wanted =
-        b"ok 1\nok 2 bookmark 1\nok 3 bookmark 2\nok 4 bookmark 3\nsettled\nok 5 intervention 1\nsettled\nbookmark 1 current 4\n1 2\nbookmark 3 current 4\n1 3\n";
+    let wanted = b"\
+        ok 1\n\
+        ok 2 bookmark 1\n\
+        ok 3 bookmark 2\n\
+        ok 4 bookmark 3\n\
+        settled\n\
+        ok 5 intervention 1\n\
+        settled\n\
+        bookmark 1 current 4\n\
+        1 2\n\
+        bookmark 3 current 4\n\
+        1 3\n";
     any_workers(&rt, alloc, EDITED, wanted);
-    let wanted =
-        b"ok 1\nok 2\nok 3 bookmark 1\nworking\nok 4 intervention 1\nsettled\nbookmark 1 current 4\n1 4\n";
+    let wanted = b"\
+        ok 1\n\
+        ok 2\n\
+        ok 3 bookmark 1\n\
+        working\n\
+        ok 4 intervention 1\n\
+        settled\n\
+        bookmark 1 current 4\n\
+        1 4\n";
     any_workers(&rt, alloc, WORKED, wanted);
 }
 
@@ -328,8 +371,18 @@ fn any_workers_answer_the_same(rt: HostRuntime) {
 #[test]
 fn progress_changes_no_reply(rt: HostRuntime) {
     let alloc = rt.alloc();
-    let wanted =
-        b"ok 1\nok 2 bookmark 1\nok 3 bookmark 2\nok 4 bookmark 3\nsettled\nok 5 intervention 1\nsettled\nbookmark 1 current 4\n1 2\nbookmark 3 current 4\n1 3\n";
+    let wanted = b"\
+        ok 1\n\
+        ok 2 bookmark 1\n\
+        ok 3 bookmark 2\n\
+        ok 4 bookmark 3\n\
+        settled\n\
+        ok 5 intervention 1\n\
+        settled\n\
+        bookmark 1 current 4\n\
+        1 2\n\
+        bookmark 3 current 4\n\
+        1 3\n";
     answers(&rt, alloc, "--progress", EDITED, 0, wanted);
     answers(
         &rt,
@@ -446,8 +499,19 @@ fn says(
 // Scripts of whose replies nothing is said: what is refused is no line that is no command.
 const PLAIN: &[&[u8]] = &[
     b"show 1\nsettle\nquit\n",
-    b"help\nrule\n@RULE refused 80 BadCommand 1\nend\n",
-    b"rule\n@RULE X\n@TABLE\nrefused 80 \nn_states:2\nend\nscript\n",
+    b"\
+        help\n\
+        rule\n\
+        @RULE refused 80 BadCommand 1\n\
+        end\n",
+    b"\
+        rule\n\
+        @RULE X\n\
+        @TABLE\n\
+        refused 80 \n\
+        n_states:2\n\
+        end\n\
+        script\n",
     b"rule\nend\n",
 ];
 
