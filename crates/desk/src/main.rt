@@ -1,7 +1,7 @@
 //! The program `desk`: answers the script on standard input on standard output.
 #![tactic(auto)]
 
-use desk_program::{given_words, start};
+use desk_program::{Devices, Terminals, given_words, start};
 use std::io::IsTerminal;
 use std::marker::Brand;
 use std::process::ExitCode;
@@ -14,12 +14,16 @@ fn main(rt: HostRuntime) -> ExitCode {
         &rt,
         rt.alloc(),
         &words,
-        rt.stdin().is_terminal(),
-        rt.stderr().is_terminal(),
-        rt.stdin(),
-        rt.stdout(),
-        Blank::new(1),
-        Blank::new(1),
+        Terminals {
+            input: rt.stdin().is_terminal(),
+            error: rt.stderr().is_terminal(),
+        },
+        Devices {
+            reader: rt.stdin(),
+            writer: rt.stdout(),
+            reader_blank: Blank::new(1),
+            writer_blank: Blank::new(1),
+        },
     );
     status
 }

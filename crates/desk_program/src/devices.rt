@@ -17,11 +17,11 @@ use std::time::Clock;
 
 /// A reader and a writer, and the blanks of the ledgers in which their failures are counted.
 #[derive(Drop)]
-pub(crate) struct Devices<R, W> {
-    pub(crate) reader: R,
-    pub(crate) writer: W,
-    pub(crate) reader_blank: Blank,
-    pub(crate) writer_blank: Blank,
+pub struct Devices<R, W> {
+    pub reader: R,
+    pub writer: W,
+    pub reader_blank: Blank,
+    pub writer_blank: Blank,
 }
 
 // Runs the script, with its progress shown or not: what is written is the same.

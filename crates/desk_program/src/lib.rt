@@ -18,7 +18,8 @@ mod typed;
 
 pub use desk_server::RunFault;
 pub use desk_words::{OptionFault, given_words};
+pub use devices::Devices;
 pub use ending::{Ending, report, tell};
-pub use program::start;
+pub use program::{Terminals, start};
 pub use progress::Line;
 pub use typed::greeting;

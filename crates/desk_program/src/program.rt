@@ -4,7 +4,7 @@ ghost use Rattle.desk_words.specs.Words.{Checks};
 ghost use Rattle.desk_words.specs.declared.settings.Options.{Options as Chosen};
 ghost use Rattle.desk_words.specs.declared.words.OptionFault.{OptionFault as Fault};
 ghost use Rattle.job_pool.specs.Pool.{new_pool};
-ghost use Rattle.desk_program.specs.Start.{Answers, AreOpenable, Opens, Starts};
+ghost use Rattle.desk_program.specs.Start.{Answers, AreOpenable, Starts};
 
 use crate::devices::{Devices, answer_over};
 use crate::ending::{Ending, report, tell};
@@ -20,7 +20,7 @@ use std::alloc::{AllocError, Global};
 use std::io::{Read, Write};
 use std::process::ExitCode;
 use std::sync::Wait;
-use std::sync::ledger::{Blank, Ledger};
+use std::sync::ledger::Ledger;
 use std::thread::Threads;
 use std::time::Clock;
 use std::{io, thread};
@@ -191,54 +191,57 @@ where
     (ending, reader.into_inner(), writer.into_inner())
 }
 
+/// Which of the program's devices are terminals.
+#[derive(Clone, Copy, Debug, PartialEq, Eq)]
+pub struct Terminals {
+    /// Standard input, so that somebody types the script.
+    pub input: bool,
+    /// Standard error, so that somebody sees how far a settling is.
+    pub error: bool,
+}
+
 /// Reads the words, and answers the script if they are in order, with the workers and the squares
 /// that they choose; or says on the outputs why they are not, and leaves both devices untouched. Where
 /// the script is typed it says first on standard error what it waits for, and gives hints there. Where
-/// the words ask for progress, or standard error is watched, a long settling shows there how far it is.
-/// It tells how that ended, gives the exit status, and hands both devices back. Failures of the devices
-/// are counted in ledgers of their own, made of the two blanks.
+/// the words ask for progress, or standard error is a terminal, a long settling shows there how far it
+/// is. It tells how that ended, gives the exit status, and hands both devices back. Failures of the
+/// devices are counted in ledgers of their own, made of the two blanks.
 pub fn start<T, H: Print + Eprint, R, W, L: Ledger, M: Ledger>(
     rt: &T,
     outputs: &H,
     alloc: Global,
     words: &io::Result<Vec<String>>,
-    is_typed: bool,
-    is_watched: bool,
-    reader: R,
-    writer: W,
-    reader_blank: Blank,
-    writer_blank: Blank,
+    terminals: Terminals,
+    devices: Devices<R, W>,
 ) -> (ExitCode, R, W)
 where
     T: Threads + Wait + Clock + Eprint + Sync,
     R: Read + Drop,
     W: Write + Drop,
-    requires reader { Opens reader_blank L.name L.parts }
-    requires writer { Opens writer_blank M.name M.parts }
+    requires { AreOpenable devices L.name L.parts M.name M.parts }
     // What the words come to is known, and with it how the program ends.
     ensures { (checked : Result Chosen Fault)
         × Checks (λ words. map string_bytes (drop 1 words.items)) words.now checked
-        × Starts R.remaining W.contents reader writer checked result.0 result.1 result.2 }
+        × Starts R.remaining W.contents devices.reader devices.writer checked
+        result.0 result.1 result.2 }
 {
     match check_words(alloc, words) {
         Ok(options) => {
-            greet(outputs, is_typed);
+            greet(outputs, terminals.input);
             let options = Options {
-                progress: options.progress || is_watched,
+                progress: options.progress || terminals.error,
                 ..options
             };
-            let devices = Devices {
-                reader,
-                writer,
-                reader_blank,
-                writer_blank,
-            };
-            let hinted = if is_typed { Some(outputs) } else { None };
+            let hinted = if terminals.input { Some(outputs) } else { None };
             let (ending, reader, writer) = answer_hinted::<_, _, _, _, L, M>(
                 rt, hinted, alloc, options, devices,
             );
             (tell(outputs, ending), reader, writer)
         }
-        Err(fault) => (tell(outputs, report(outputs, &fault)), reader, writer),
+        Err(fault) => (
+            tell(outputs, report(outputs, &fault)),
+            devices.reader,
+            devices.writer,
+        ),
     }
 }

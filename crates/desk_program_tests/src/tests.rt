@@ -1,7 +1,9 @@
 //! What is written where, and the endings.
 mod progress;
 
-use desk_program::{Ending, OptionFault, RunFault, greeting, report, start, tell};
+use desk_program::{
+    Devices, Ending, OptionFault, RunFault, Terminals, greeting, report, start, tell,
+};
 use std::alloc::Global;
 use std::cell::Cell;
 use std::fmt::{Debug, Display};
@@ -219,12 +221,16 @@ fn begun<R: Read + Drop, W: Write + Drop>(
         outputs,
         outputs.alloc,
         &words,
-        is_typed,
-        false,
-        reader,
-        writer,
-        Blank::new(1),
-        Blank::new(1),
+        Terminals {
+            input: is_typed,
+            error: false,
+        },
+        Devices {
+            reader,
+            writer,
+            reader_blank: Blank::new(1),
+            writer_blank: Blank::new(1),
+        },
     );
     (status, written)
 }
