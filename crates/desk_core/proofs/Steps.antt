@@ -10,7 +10,7 @@ use Rattle.dependency_book.specs.declared.row.Row.{Row}
 use Rattle.desk_core.specs.declared.collect.Collected.{Collected}
 use Rattle.desk_core.specs.declared.collect.Collected.TheVariants.{Released}
 use Rattle.desk_core.specs.Collected.{IsCollected}
-use Rattle.desk_core.proofs.Shared.Causes.{explains-kept, explains-refused, explains-released, saw-on, saw-refused, saw-released}
+use Rattle.desk_core.proofs.Shared.Causes.{explains-kept, explains-refused, explains-released, saw-more, saw-on, saw-refused, saw-released}
 use Rattle.desk_core.proofs.Calls.{calls-cancelled, calls-first, calls-refused, calls-same, calls-then, or-none}
 use Rattle.desk_core.proofs.Known.{KeepsKnown-cancelled, KeepsKnown-filled, KeepsKnown-stays, stays-issued}
 use Rattle.desk_core.proofs.Out.{cancelled_out, filled_out, held_alone, issued_out, not_numbered}
@@ -242,7 +242,7 @@ GoesOn-answered old new p q before after answer collected receives collects unse
             h.calls collects receives.answers cause (λ issue. absurd (cc));
         told = told first begun h;
         refused = omega (arith, h.refused, same.refused);
-        stops = omega (arith, h.stops, receives.stops);
+        stops = omega (arith, h.stops, saw-more p q answer receives);
         limit = receives.same.limit ∙ h.limit;
         kind = receives.same.kind ∙ h.kind;
       };
@@ -260,7 +260,7 @@ tells-answered old new p q before answer receives same first begun h = record {
   gave = receives.answers ∙ ap (λ xs. xs ++ answer ∷ []) h.told.gave
       ∙ append_assoc begun.answers h.told.later (answer ∷ []);
   explained = explains-kept begun.limit first old new h.told.later (answer ∷ []) before.cause same h.told.explained;
-  stopped = saw-on begun p q before.cause receives.stops h.told.stopped;
+  stopped = saw-on begun p q before.cause (saw-more p q answer receives) h.told.stopped;
 }
 
 -- or is that of an answer that its job gave up
@@ -273,7 +273,7 @@ unfolding tells-answered
 tells-released old new p q before after answer fault told receives same gave is caused first begun h =
     let found = explains-released begun.limit p.table first new h.told.later answer fault
     (subst (λ n. IsOwnAnswer p.table n answer) h.limit receives.own) gave in
-    let saw = saw-released begun p q answer fault h.kind h.stops receives gave in
+    let saw = saw-released begun p q answer fault h.stops receives gave in
     record {
       later = h.told.later ++ answer ∷ [];
       gave = (tells-answered old new p q before answer receives same first begun h).gave;
@@ -281,7 +281,7 @@ tells-released old new p q before after answer fault told receives same gave is 
           caused (subst (Explains begun.limit first new (h.told.later ++ answer ∷ [])) (sym is) found)
           (explains-kept begun.limit first old new h.told.later (answer ∷ []) before.cause same h.told.explained);
       stopped = first_told (SawStop begun q) before.cause after.cause told caused (subst (SawStop begun q) (sym is) saw)
-          (saw-on begun p q before.cause receives.stops h.told.stopped);
+          (saw-on begun p q before.cause (saw-more p q answer receives) h.told.stopped);
     }
   where
     first_told : (P : Cause → Type 0) (before after : Option Cause) (told : Cause) → after ≡ Some (unwrap_or before told)

@@ -41,16 +41,15 @@ Explains limit first d answers NoRoom = FoundNoRoom limit answers
 Explains limit first d answers Stopped = GaveUp answers EvolveFault.Stopped
 Explains limit first d answers NumbersSpent = 16777216 ≤ given_of d
 
--- that a job was stopped is a cause over a prompt post only where it saw a job's flag raised
--- meanwhile
+-- that a job was stopped is a cause only where a flag was seen raised meanwhile for an answer
 abbrev pub SawStop : PostView → PostView → Cause → Type 0
 SawStop p q NoMemory = ⊤
 SawStop p q NoRoom = ⊤
-SawStop p q Stopped = p.is_prompt ≡ true → p.stops < q.stops
+SawStop p q Stopped = p.stops < q.stops
 SawStop p q NumbersSpent = ⊤
 
 -- a cause, if there is one, is explained by the answers that a post gave meanwhile, at its limit,
--- and where that is a stop by a flag that it saw raised, or by an issue that was refused meanwhile
+-- and where it is a stop by a flag that was seen raised, or by an issue that was refused meanwhile
 pub record TellsCause (p q : PostView) (old new : BookState) (cause : Option Cause)
     : Type 0 where
   pub later : List JobResult

@@ -1,7 +1,8 @@
 -- What explains a cause explains it still, while jobs come and go.
-use Rattle.desk_core.proofs.Names.{BookState, Cause, Err, EvolveFault, Explains, IfSome, IsOwnAnswer, IssueFault, JobResult, List, Option, PostView, RanOut, Receives, RefusesIssue, SameBook, SawStop, Some, [], append-nil, arith}
-use Rattle.desk_core.proofs.Names.{cause_of_answer, cause_of_issue, common_steps, entry_of, get_or-append-add, given_of, inl, inr, length, subst, sym, ℕ, ◌++◌, ◌+◌, ◌<◌, ◌∙◌, ◌∷◌, ◌≡◌, ◌≤◌}
+use Rattle.desk_core.proofs.Names.{BookState, Cause, Err, EvolveFault, Explains, IfSome, IsOwnAnswer, IssueFault, JobResult, List, Option, PostView, RanOut, Receives, RefusesIssue, Result, SameBook, SawStop, Some, Value, [], arith}
+use Rattle.desk_core.proofs.Names.{append-nil, cause_of_answer, cause_of_issue, common_steps, entry_of, get_or-append-add, given_of, inl, inr, length, refl, subst, sym, ℕ, ◌++◌, ◌+◌, ◌<◌, ◌∙◌, ◌∷◌, ◌≡◌, ◌≤◌}
 use Rattle.std.specs.List.{Any}
+use Rattle.worlds.specs.Stop.{CountsStop}
 use Rattle.std.proofs.Math.ListN.{get_or-append}
 use Rattle.revision_jobs.specs.declared.post.Received.TheVariants.{Answer}
 use Rattle.revision_jobs.specs.Room.{HasNoRoom}
@@ -63,14 +64,21 @@ explains-refused limit first old new answers issue.NumbersSpent before h =
 explains-refused limit first old new answers issue.NoMemory before h =
     inr (subst (RanOut first) (sym h.2) (omega (arith, before), h.1))
 
--- and over a prompt post a stop only where it saw a flag raised
+-- and a stop only where a flag was seen raised
 
-pub saw-released : (begun p q : PostView) (answer : JobResult) (fault : EvolveFault)
-    → p.is_prompt ≡ begun.is_prompt → begun.stops ≤ p.stops → Receives p q (Answer answer)
-    → answer.outcome ≡ Err fault → SawStop begun q (cause_of_answer fault)
-saw-released begun p q answer EvolveFault.Stopped kind before receives gave = λ prompt.
-    omega (arith, before, (receives.stopped (kind ∙ prompt)).stopped gave)
-saw-released begun p q answer fault kind before receives gave = tt
+pub saw-released : (begun p q : PostView) (answer : JobResult) (fault : EvolveFault) → begun.stops ≤ p.stops
+    → Receives p q (Answer answer) → answer.outcome ≡ Err fault → SawStop begun q (cause_of_answer fault)
+saw-released begun p q answer EvolveFault.Stopped before receives gave = omega (arith, before, receives.stops.stopped gave)
+saw-released begun p q answer fault before receives gave = tt
+
+-- flags that were seen raised are never fewer with an answer
+pub saw-more : (p q : PostView) (answer : JobResult) → Receives p q (Answer answer) → p.stops ≤ q.stops
+saw-more p q answer receives = counted p.stops q.stops answer.outcome receives.stops
+  where
+    counted : (before after : ℕ) (outcome : Result Value EvolveFault)
+        → CountsStop outcome (Err EvolveFault.Stopped) before after → before ≤ after
+    counted before after (Err EvolveFault.Stopped) counts = omega (arith, counts.stopped refl)
+    counted before after outcome counts = omega (arith, counts.went_on (λ is. absurd cc))
 
 -- what was seen raised was so however many more are
 pub saw-on : (begun p q : PostView) (cause : Option Cause) → p.stops ≤ q.stops → IfSome cause (SawStop begun p)

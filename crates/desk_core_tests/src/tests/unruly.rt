@@ -1,9 +1,9 @@
 //! A post that loses, repeats, delays and reorders answers, as a list says.
-ghost use Rattle.std.specs.Prelude.{◌≡◌};
-ghost use Rattle.revision_jobs.specs.Posted.{IsReceived};
+ghost use Rattle.std.specs.Prelude.{◌≡◌, IfSome};
+ghost use Rattle.revision_jobs.specs.Posted.{IsOwnAnswer};
 
-use desk_core::{Answer, Entries, InlinePost, Job, Post, Received, Sent};
-use revision_jobs::PostRecord;
+use desk_core::{Entries, Job, NoGate, Post, Received, Sent, work};
+use revision_jobs::{PostRecord, Worked};
 use std::alloc::Global;
 use std::marker::Model;
 
@@ -26,18 +26,22 @@ pub(super) enum Deed {
 /// answers what it holds.
 #[derive(Drop)]
 pub(super) struct Unruly<'a> {
-    first: InlinePost<'a>,
-    second: InlinePost<'a>,
-    last: Option<Answer>,
+    entries: &'a Entries,
+    first: Option<Job>,
+    second: Option<Job>,
+    last: Option<Worked>,
     deeds: &'static [Deed],
     floor: u64,
     history: PostRecord,
+    squares: u32,
+    alloc: Global,
 }
 
 impl<'a> Model for Unruly<'a> {
     ghost use Rattle.std.specs.Coded.{codes};
-    ghost use Rattle.std.specs.Prelude.{◌≡◌, ◌≤◌, IfSome, None, false};
+    ghost use Rattle.std.specs.Prelude.{IfSome, None, false};
     ghost use Rattle.worlds.specs.World.{coded_world};
+    ghost use Rattle.revision_jobs.specs.Inline.{IsHeldOf};
     ghost use Rattle.revision_jobs.specs.Posted.{IsOwnAnswer, PostView};
 
     ghost Value = { PostView };
@@ -45,8 +49,8 @@ impl<'a> Model for Unruly<'a> {
     ghost coded = { Prim.hlevel (codes, coded_world) };
 
     ghost view = { λ u. record {
-      table = u.first.table;
-      limit = u.first.limit;
+      table = u.entries.now;
+      limit = u.squares;
       floor = u.floor;
       answers = u.history.answers;
       is_prompt = false;
@@ -56,23 +60,8 @@ impl<'a> Model for Unruly<'a> {
       is_over = u.history.is_over;
     } };
 
-    ghost invariant = { λ u. (u.second.table ≡ u.first.table) × (u.second.limit ≡ u.first.limit)
-        × (u.first.floor ≤ u.floor) × (u.second.floor ≤ u.floor)
-        × IfSome u.last (IsOwnAnswer u.first.table u.first.limit) };
-}
-
-// What the one post answers, or else the other.
-fn either<'a>(one: &mut InlinePost<'a>, other: &mut InlinePost<'a>) -> Received
-    requires { (other.old.table ≡ one.old.table) × (other.old.limit ≡ one.old.limit) }
-    ensures tables { (one.new.table ≡ one.old.table) × (other.new.table ≡ other.old.table) }
-    ensures limits { (one.new.limit ≡ one.old.limit) × (other.new.limit ≡ other.old.limit) }
-    ensures floors { (one.new.floor ≡ one.old.floor) × (other.new.floor ≡ other.old.floor) }
-    ensures own { IsReceived one.old.table one.old.limit result }
-{
-    match one.receive() {
-        Received::Nothing => other.receive(),
-        received => received,
-    }
+    ghost invariant = { λ u. IsHeldOf u.entries.now u.first × IsHeldOf u.entries.now u.second
+        × IfSome u.last (IsOwnAnswer u.entries.now u.squares) };
 }
 
 impl<'a> Unruly<'a> {
@@ -86,12 +75,15 @@ impl<'a> Unruly<'a> {
         ensures { (result.table ≡ entries.now) × (result.floor ≡ 0) }
     {
         Unruly {
-            first: InlinePost::new(alloc, entries, squares),
-            second: InlinePost::new(alloc, entries, squares),
+            entries,
+            first: None,
+            second: None,
             last: None,
             deeds,
             floor: 0,
             history: PostRecord::none(),
+            squares,
+            alloc,
         }
     }
 
@@ -108,22 +100,43 @@ impl<'a> Unruly<'a> {
         }
     }
 
-    fn does(&mut self, deed: Deed) -> Received
+    // The answer to the job in its first place, or in its second, as is asked for, or else to the
+    // other.
+    fn answers(&mut self, is_first: bool) -> Option<Worked>
         ensures kept { self.new ≡ self.old }
-        ensures own { IsReceived self.old.table self.old.limit result }
+        ensures own { IfSome result (IsOwnAnswer self.old.table self.old.limit) }
+    {
+        let taken = if self.second.is_none() || (is_first && self.first.is_some()) {
+            self.first.take()
+        } else {
+            self.second.take()
+        };
+        let job = taken?;
+        let mut stop = self.entries.stop(&job.place);
+        let answer = work(
+            self.alloc,
+            job,
+            self.entries,
+            &mut NoGate,
+            &mut stop,
+            self.squares,
+        );
+        Some(Worked::by(answer, stop))
+    }
+
+    fn does(&mut self, deed: Deed) -> Option<Worked>
+        ensures kept { self.new ≡ self.old }
+        ensures own { IfSome result (IsOwnAnswer self.old.table self.old.limit) }
     {
         match deed {
-            Deed::Waits => Received::Nothing,
-            Deed::First => either(&mut self.first, &mut self.second),
-            Deed::Second => either(&mut self.second, &mut self.first),
+            Deed::Waits => None,
+            Deed::First => self.answers(true),
+            Deed::Second => self.answers(false),
             Deed::Loses => {
-                let _lost = either(&mut self.first, &mut self.second);
-                Received::Nothing
+                let _lost = self.answers(true);
+                None
             }
-            Deed::Again => match self.last.take() {
-                Some(answer) => Received::Answer(answer),
-                None => Received::Nothing,
-            },
+            Deed::Again => self.last.take(),
         }
     }
 }
@@ -133,9 +146,14 @@ impl<'a> Post for Unruly<'a> {
 
     fn send(&mut self, job: Job) -> Sent {
         let floor = u64::from(job.number) + 1;
-        let sent = match self.first.send(job) {
-            Sent::Full(job) => self.second.send(job),
-            sent => sent,
+        let sent = if self.first.is_none() {
+            self.first = Some(job);
+            Sent::Taken
+        } else if self.second.is_none() {
+            self.second = Some(job);
+            Sent::Taken
+        } else {
+            Sent::Full(job)
         };
         if let Sent::Taken = sent {
             self.floor = floor;
@@ -146,12 +164,12 @@ impl<'a> Post for Unruly<'a> {
 
     fn receive(&mut self) -> Received {
         let deed = self.deed();
-        let received = self.does(deed);
-        if let Received::Answer(answer) = &received {
-            self.last = answer.again().ok();
-        }
-        self.history.note_received(&received);
-        received
+        let Some(worked) = self.does(deed) else {
+            self.history.note_received(&Received::Nothing);
+            return Received::Nothing;
+        };
+        self.last = worked.again().ok();
+        self.history.note_worked(worked)
     }
 
     fn try_receive(&mut self) -> Received {

@@ -2,7 +2,7 @@
 ghost use Rattle.std.specs.Prelude.{◌≡◌, ◌≤◌};
 
 use desk_server::{Entries, InlinePost, Post};
-use revision_jobs::{Answer, Job, PostRecord, Received, Sent};
+use revision_jobs::{Job, NoGate, PostRecord, Received, Sent, Worked, work};
 use std::alloc::Global;
 use std::marker::Model;
 
@@ -74,7 +74,7 @@ impl<'a> Post for Closes<'a> {
       is_prompt = false;
       held = None;
       asked = post.history.asked;
-      stops = post.history.stops;
+      stops = post.inner.stops;
       is_over = post.history.is_over;
     } };
 
@@ -110,15 +110,20 @@ impl<'a> Post for Closes<'a> {
 // Gives each answer twice.
 #[derive(Drop)]
 pub struct Repeats<'a> {
-    inner: InlinePost<'a>,
-    again: Option<Answer>,
+    entries: &'a Entries,
+    floor: u64,
+    held: Option<Job>,
+    again: Option<Worked>,
     history: PostRecord,
+    squares: u32,
+    alloc: Global,
 }
 
 impl<'a> Model for Repeats<'a> {
     ghost use Rattle.std.specs.Coded.{codes};
     ghost use Rattle.std.specs.Prelude.{IfSome, None, false};
     ghost use Rattle.worlds.specs.World.{coded_world};
+    ghost use Rattle.revision_jobs.specs.Inline.{IsHeldOf};
     ghost use Rattle.revision_jobs.specs.Posted.{IsOwnAnswer, PostView};
 
     ghost Value = { PostView };
@@ -126,9 +131,9 @@ impl<'a> Model for Repeats<'a> {
     ghost coded = { Prim.hlevel (codes, coded_world) };
 
     ghost view = { λ post. record {
-      table = post.inner.table;
-      limit = post.inner.limit;
-      floor = post.inner.floor;
+      table = post.entries.now;
+      limit = post.squares;
+      floor = post.floor;
       answers = post.history.answers;
       is_prompt = false;
       held = None;
@@ -137,7 +142,8 @@ impl<'a> Model for Repeats<'a> {
       is_over = post.history.is_over;
     } };
 
-    ghost invariant = { λ post. IfSome post.again (IsOwnAnswer post.inner.table post.inner.limit) };
+    ghost invariant = { λ post. IsHeldOf post.entries.now post.held
+        × IfSome post.again (IsOwnAnswer post.entries.now post.squares) };
 }
 
 impl<'a> Repeats<'a> {
@@ -146,9 +152,13 @@ impl<'a> Repeats<'a> {
         ensures { (result.table ≡ entries.now) × (result.floor ≡ 0) }
     {
         Repeats {
-            inner: InlinePost::new(alloc, entries, squares),
+            entries,
+            floor: 0,
+            held: None,
             again: None,
             history: PostRecord::none(),
+            squares,
+            alloc,
         }
     }
 }
@@ -157,23 +167,37 @@ impl<'a> Post for Repeats<'a> {
     ghost view = { λ post. post };
 
     fn send(&mut self, job: Job) -> Sent {
-        let sent = self.inner.send(job);
+        let sent = if self.held.is_some() {
+            Sent::Full(job)
+        } else {
+            self.floor = u64::from(job.number) + 1;
+            self.held = Some(job);
+            Sent::Taken
+        };
         self.history.note_sent(&sent);
         sent
     }
 
     fn receive(&mut self) -> Received {
-        if let Some(answer) = self.again.take() {
-            let received = Received::Answer(answer);
-            self.history.note_received(&received);
-            return received;
+        if let Some(worked) = self.again.take() {
+            return self.history.note_worked(worked);
         }
-        let received = self.inner.receive();
-        self.history.note_received(&received);
-        if let Received::Answer(answer) = &received {
-            self.again = answer.again().ok();
-        }
-        received
+        let Some(job) = self.held.take() else {
+            self.history.note_received(&Received::Nothing);
+            return Received::Nothing;
+        };
+        let mut stop = self.entries.stop(&job.place);
+        let answer = work(
+            self.alloc,
+            job,
+            self.entries,
+            &mut NoGate,
+            &mut stop,
+            self.squares,
+        );
+        let worked = Worked::by(answer, stop);
+        self.again = worked.again().ok();
+        self.history.note_worked(worked)
     }
 
     fn try_receive(&mut self) -> Received {
@@ -181,7 +205,7 @@ impl<'a> Post for Repeats<'a> {
     }
 
     fn floor(&self) -> u64 {
-        self.inner.floor()
+        self.floor
     }
 }
 
@@ -197,7 +221,7 @@ pub struct Reverses<'a> {
 }
 
 impl<'a> Post for Reverses<'a> {
-    ghost use Rattle.std.specs.Prelude.{None, false};
+    ghost use Rattle.std.specs.Prelude.{◌+◌, None, false};
 
     ghost view = { λ post. record {
       table = post.first.table;
@@ -207,7 +231,7 @@ impl<'a> Post for Reverses<'a> {
       is_prompt = false;
       held = None;
       asked = post.history.asked;
-      stops = post.history.stops;
+      stops = post.first.stops + post.last.stops;
       is_over = post.history.is_over;
     } };
 
