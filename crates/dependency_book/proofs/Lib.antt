@@ -2,6 +2,7 @@ pub mod Entering
 pub mod Followed
 pub mod Found
 pub mod Handed
+pub mod Left
 pub mod Needed
 pub mod Passed
 pub mod Outs

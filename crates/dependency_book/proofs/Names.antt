@@ -1,5 +1,6 @@
 -- The names that the proofs of this crate cite most, passed on from one place. It declares nothing.
-pub use Rattle.dependency_book.specs.BookState.{BookState, NothingOut, arrival_known, arrival_row, empty_rows_of, expected, is_pending, opened, pending_of, row_of, text_row, with_refusal}
+pub use Rattle.dependency_book.specs.BookState.{BookState, NothingOut, arrival_known, arrival_row, empty_rows_of, expected, is_pending, opened, pending_of, row_of, text_row, with_facts, with_refusal}
+pub use Rattle.dependency_book.specs.BookState.{SameButFacts, SameFacts}
 pub use Rattle.dependency_book.specs.Called.{IsCancel, IsCollect, IsEdit, IsIssue, TakesAnswer}
 pub use Rattle.dependency_book.specs.Core.{core_of, plain_row}
 pub use Rattle.dependency_book.specs.Cursor.{HasPassed, IsKeptBook, start}
@@ -7,12 +8,12 @@ pub use Rattle.dependency_book.specs.Entered.{IsEntryOf, StepsTo, ViewsOf}
 pub use Rattle.dependency_book.specs.Felt.{BookFeels, BookIsUnfelt, BookIsUnfeltAt, BookIsUnfeltWhere}
 pub use Rattle.dependency_book.specs.Held.{IsHeldBook, places_of}
 pub use Rattle.dependency_book.specs.Inside.{state_of}
-pub use Rattle.dependency_book.specs.Jobs.{FreesOne, IsAnyOut, IsFilled, IsFirstOut, IsNextJob, SameBook, StepExpects, answered, cancelled, given_by, is_job}
+pub use Rattle.dependency_book.specs.Jobs.{IsAnyOut, IsFilled, IsFirstOut, IsNextJob, SameBook, StepExpects, answered, cancelled, given_by, is_job}
 pub use Rattle.dependency_book.specs.Kept.{KeepsRows, KeepsUnfelt, arrival_after, bookmark_stays, mark_stays, text_kept}
 pub use Rattle.dependency_book.specs.Needs.{CanBeReached, CanBeViewed, IsLedTo, IsNext, IsNextStep, IsNextView, IsNotAfter, ViewIsNext}
 pub use Rattle.dependency_book.specs.Puts.{CanBePut, PutsRow, can_change, filled_by, missing}
 pub use Rattle.dependency_book.specs.Ready.{AreHeldBack, IsFirst, NoneBefore, before_in, before_row, is_ready, place_ready, row_before, steppable, viewable}
-pub use Rattle.dependency_book.specs.Recalled.{AreGiven, Entered, Enters, EntersSteps, Fills, WasGiven}
+pub use Rattle.dependency_book.specs.Recalled.{AreGiven, Entered, Enters, EntersOrFrees, EntersSteps, Fills, LeavesNone, LooksUp, LooksUpAll, NoneKnown, Remembers, WasGiven}
 pub use Rattle.dependency_book.specs.Remade.{AreRemade, kept_of, remade_rows}
 pub use Rattle.dependency_book.specs.Right.{IsGiven, IsRightBook}
 pub use Rattle.dependency_book.specs.RowState.{any_out, either, has_number, is_empty, is_known, job_of, known, least_out, lesser, named_by, row_for, state_map}

@@ -14,7 +14,7 @@ empty_is : {V : Type 0} (s : RowState V) → is_empty s ≡ true → s ≡ Empty
 empty_is s h = grind arith
 
 -- a row for a mark
-row_for : Mark → ArrivalRow
+pub row_for : Mark → ArrivalRow
 row_for m = record { key = m; state = Empty }
 
 place_at : (arrivals : List ArrivalRow) (rows : List TextRow) (k : ℕ) (x : TextRow) → k < length rows
@@ -147,19 +147,21 @@ module _ {d : BookState} {places : List ℕ} (held : IsHeldBook d places) where
       subst (λ (r : ArrivalRow). CanBeReached d r.key) (sym is) (can_be_reached k x low can)
 
   -- and to the row of a mark that can be reached
-  reached_there : (mark : Mark) → CanBeReached d mark → MarkRow d mark → (x : ArrivalRow)
-      → IsSteppable d (place_of_mark d mark) x
-  reached_there mark can f x =
-      let p = place_of_mark d mark in
-      let is = f.is x in
-      let comes = subst (ComesBefore d.plan (before_at d p x)) is (row_comes held p x f.at.low) in
+  pub reached_at : (p : ℕ) (x : ArrivalRow) → p < length d.arrivals → CanBeReached d (mark_of d.arrivals p x)
+      → IsSteppable d p x
+  reached_at p x low can =
       let one : before_at d p x ≡ can.led.before =
-      before_one d.plan (before_at d p x) can.led.before mark held.right.core.sound comes can.led.comes in
+      before_one d.plan (before_at d p x) can.led.before (mark_of d.arrivals p x) held.right.core.sound
+      (row_comes held p x low) can.led.comes in
       let ready : is_ready d.arrivals (before_at d p x) ≡ true =
       ready_is d (before_at d p x) ∙ rw one can.led.arrived in
-      let empty : (get_or d.arrivals p x).state ≡ Empty =
-      sym (row_stands held p x f.at.low) ∙ ap (arrival_row d) is ∙ can.empty in
+      let empty : (get_or d.arrivals p x).state ≡ Empty = sym (row_stands held p x low) ∙ can.empty in
       rw (empty, ready) refl
+
+  pub reached_there : (mark : Mark) → CanBeReached d mark → MarkRow d mark → (x : ArrivalRow)
+      → IsSteppable d (place_of_mark d mark) x
+  reached_there mark can f x =
+      reached_at (place_of_mark d mark) x f.at.low (subst (CanBeReached d) (sym (f.is x)) can)
 
   -- the first mark that a step can be made to is the first that can be reached
   pub step_next : (k : ℕ) (x : ArrivalRow) → x ≡ get_or d.arrivals k x
@@ -231,7 +233,7 @@ before_is p a m (inl begins) = begun (element_at branch_id p.branches m.branch) 
         forked p a m.branch x found (grind (arith, nat_tests, branch, generation))
 before_is p a m (inr precedes) = precedes.is
 
-before_lower : (p : Plan) (a m : Mark) → IsSound p → m.generation ≤ 2 ^ 60 → ComesBefore p a m
+pub before_lower : (p : Plan) (a m : Mark) → IsSound p → m.generation ≤ 2 ^ 60 → ComesBefore p a m
     → mark_rank a < mark_rank m
 before_lower p a m sound near (inl begins) =
     let less = parents_before p.branches sound.branches_sound.forked m.branch begins.above in

@@ -73,6 +73,7 @@ arrival_puts d m s right can =
           missing-map pattern (arrival_row d m) ∙ rw h.off refl in
           let is = missing-map pattern s in
           omega (arith, count, was, is);
+      remembered = record { facts = refl; missed = refl };
     }
   where
     arrival_rows : HasRow d m → (other : Need) → row_of (with_arrival d m s) other ≡
@@ -96,6 +97,7 @@ text_puts d id s bookmarks can =
           let was = missing-map text (text_row d id) in
           let is = missing-map text s in
           omega (arith, count, was, is);
+      remembered = record { facts = refl; missed = refl };
     }
   where
     text_rows : has bookmark_rank id (keys d.texts) ≡ true → (other : Need)

@@ -1,12 +1,12 @@
 -- What came of a step may be entered for the mark that the step leads to.
-use Rattle.dependency_book.proofs.Names.{AddsOnly, Arc, AreGiven, BookState, Calls, CanBePut, CanRecall, Core, Empty, EntersSteps, Event, Fact, Fills, Follows, FreesOne, Global, IsCollect, IsFilled, IsRightBook, IsSome, JobResult, Known}
-use Rattle.dependency_book.proofs.Names.{List, Mark, NotExpected, Option, PutsRow, Recalled, Released, SameBook, Some, StepsFrom, StepsTo, TakesAnswer, WasGiven, World, [], after_event, answer_said, ap, arc_value, arith, can_change}
+use Rattle.dependency_book.proofs.Names.{AddsOnly, Arc, AreGiven, BookState, Calls, CanBePut, CanRecall, Core, Empty, EntersOrFrees, EntersSteps, Event, Fact, Fills, Follows, Global, IsCollect, IsFilled, IsRightBook, IsSome, JobResult, Known, LooksUpAll, Need}
+use Rattle.dependency_book.proofs.Names.{List, Mark, NotExpected, Option, PutsRow, Recalled, Released, RowState, Value, SameBook, SameButFacts, Some, StepsFrom, StepsTo, TakesAnswer, WasGiven, World, [], after_event, answer_said, ap, arc_value, arith, can_change}
 use Rattle.dependency_book.proofs.Names.{collects, core_of, holds, inl, inr, option_map, pattern, plain_row, recalls, recalls_right, refl, row_of, same_comes, slice_get, step_said, step_to, steps, subst, sym, true, world_after, ℕ, ◌++◌}
-use Rattle.dependency_book.proofs.Names.{◌∙◌, ◌∷◌, ◌≡◌}
+use Rattle.dependency_book.proofs.Names.{with_facts, ◌∙◌, ◌∷◌, ◌≡◌, ◌≤◌}
 use Rattle.revision_jobs.specs.declared.entry.Step.{Step as Stepping}
 use Rattle.dependency_book.specs.declared.filled.Filled.{Filled}
 use Rattle.dependency_book.specs.declared.filled.Filled.TheVariants.{Row}
-use Rattle.dependency_book.proofs.Shared.Recalling.{book_then, recalls_all, recalls_book, recalls_none, recalls_one, recalls_wanting}
+use Rattle.dependency_book.proofs.Shared.Recalling.{book_then, recalls_all, recalls_book, recalls_one, recalls_wanting}
 use Rattle.desk_events.specs.Core.{put}
 use Rattle.desk_events.specs.Entry.{world_after as core_after}
 use Rattle.desk_events.specs.Law as core
@@ -74,16 +74,26 @@ module _ {d : BookState} {mark : Mark} {s : Stepping} (h : CanBeEntered d mark s
     out = tt;
   }
 
-  pub entered : (e : BookState) (w : World) → w ≡ world_after s → PutsRow (step_to mark) (Known (pattern w)) d e
-      → EntersSteps d e
+  pub entered : (e : BookState) (w : World) → w ≡ world_after s
+      → PutsRow (step_to mark) (Known (pattern w)) (with_facts d e.facts e.missed) e → EntersSteps d e
   entered e w is puts =
       recalls_one mark s d e (record {
         there = h.there;
         empty = h.empty;
         own = h.own;
         earlier = h.earlier;
-        puts = subst (λ v. PutsRow (step_to mark) (Known (pattern v)) d e) is puts;
+        puts = subst (λ v. PutsRow (step_to mark) (Known (pattern v)) (with_facts d e.facts e.missed) e) is puts;
       })
+
+-- a book that remembers other steps begins as well
+pub puts_beside : (need : Need) (s : RowState Value) (d : BookState) (facts : List Fact) (missed : ℕ) (e : BookState)
+    → PutsRow need s (with_facts d facts missed) e → PutsRow need s (with_facts d e.facts e.missed) e
+puts_beside need s d facts missed e h = record {
+  book = assumption h.book;
+  rows = h.rows;
+  wanting = h.wanting;
+  remembered = record { facts = refl; missed = refl };
+}
 
 -- so the steps are recalled in the law
 record IsRecalled (c d : Core) : Type 0 where
@@ -92,11 +102,11 @@ record IsRecalled (c d : Core) : Type 0 where
 
 recalled_core : (d e : BookState) → EntersSteps d e → IsRecalled (core_of d) (core_of e)
 recalled_core =
-    recalls_all (λ d e. IsRecalled (core_of d) (core_of e)) (λ d. record { list = []; all = refl })
+    recalls_all (λ d e. IsRecalled (core_of d) (core_of e)) (λ d e same. record { list = []; all = ap core_of same })
     (λ mark s d e f h rest.
     let can : CanBeEntered d mark s = assumption h in
     let after : core_of e ≡ after_event (core_of d) (recalls mark h.earlier.number h.earlier.step) =
-    put_core d e (step_to mark) (Known (pattern (world_after s))) h.puts
+    put_core (with_facts d e.facts e.missed) e (step_to mark) (Known (pattern (world_after s))) h.puts
     ∙ ap (λ v. put (step_to mark) (holds (pattern v)) (core_of d)) (sym (earlier_comes can)) in
     record {
       list = record { mark = mark; number = h.earlier.number; step = h.earlier.step } ∷ rest.list;
@@ -131,46 +141,61 @@ calls_then event c put new call h =
         (h.0, recall_then xs ys (after_event c (recalls x.mark x.number x.step)) d e h.1 k)
 
 -- an answer was taken by a book that kept a fact
-pub took : {old kept put : BookState} {answer given : JobResult} {f : Filled} → kept ≡ old → given ≡ answer
-    → TakesAnswer given kept put f → TakesAnswer answer old put f
-took {old} {kept} {put} {answer} {given} {f} same is h =
-    subst (λ a. TakesAnswer a old put f) is (subst (λ d. TakesAnswer given d put f) same h)
+pub took : (old : BookState) {kept put : BookState} {answer given : JobResult} {f : Filled} → SameButFacts old kept
+    → given ≡ answer
+    → TakesAnswer given kept put f → TakesAnswer answer (with_facts old kept.facts kept.missed) put f
+took old {kept} {put} {answer} {given} {f} same is h =
+    subst (λ a. TakesAnswer a (with_facts old kept.facts kept.missed) put f) is
+    (subst (λ d. TakesAnswer given d put f) same h)
 
 -- what comes of filling a row
 pub record Filling (answer : JobResult) (old new : BookState) (f : Filled) : Type 0 where
   pub filled : IsFilled old new answer f
   pub fills : Fills answer old new
-  pub freed : FreesOne old new answer f
+  pub entered : EntersOrFrees old new answer f
   pub book : SameBook old new
   pub event : IsCollect answer old new f
 
--- where a row was filled and steps were recalled
-pub filled_then : {old put new : BookState} {answer : JobResult} → TakesAnswer answer old put Row → EntersSteps put new
-    → Filling answer old new Row
-filled_then {old} {put} {new} {answer} h k = record {
-  filled = (
-    h.filled.0,
-    h.filled.1,
-    (let first = h.filled.2 in let rest = recalls_wanting put new k in omega (arith, first, rest)),
-  );
-  fills = record { put = put; book = h.book; rows = h.rows; recalls = k };
-  freed = tt;
-  book = book_then old put new h.book (recalls_book put new k);
-  event = calls_then (collects (answer_said answer)) (core_of old) put new h.event k;
-}
+module _ {old put : BookState} {answer : JobResult} (facts : List Fact) (missed : ℕ) where
+  -- where a row was filled and steps were recalled
+  pub filled_then : {new : BookState} → TakesAnswer answer (with_facts old facts missed) put Row → LooksUpAll put new
+      → old.missed ≤ missed → Filling answer old new Row
+  filled_then {new} h k more = record {
+    filled = (
+      h.filled.0,
+      h.filled.1,
+      (let first = h.filled.2 in let rest = recalls_wanting put new k.recalls in omega (arith, first, rest)),
+    );
+    fills = record { put = put; book = assumption h.book; rows = h.rows; recalls = k.recalls };
+    entered = λ same.
+        k.none (let first = h.remembered.missed in let rest = k.missed in omega (arith, same, more, first, rest));
+    book = book_then old put new (assumption h.book) (recalls_book put new k.recalls);
+    event = calls_then (collects (answer_said answer)) (core_of old) put new h.event k.recalls;
+  }
 
--- and where none was
-pub filled_alone : {old put : BookState} {answer : JobResult} (f : Filled) → TakesAnswer answer old put f
-    → Filling answer old put f
-filled_alone {old} {put} {answer} f h = record {
-  filled = h.filled;
-  fills = record { put = put; book = h.book; rows = h.rows; recalls = recalls_none put };
-  freed = frees f;
-  book = h.book;
-  event = h.event;
-}
-  where
-    frees : (f : Filled) → FreesOne old put answer f
-    frees Row = tt
-    frees (Released fault) = h.rows
-    frees NotExpected = tt
+  -- and where none was
+  pub filled_alone : (f : Filled) → (f ≡ Row → ⊥) → TakesAnswer answer (with_facts old facts missed) put f
+      → Filling answer old put f
+  filled_alone f off h = record {
+    filled = is f h.filled;
+    fills = record { put = put; book = assumption h.book; rows = h.rows; recalls = ([], refl) };
+    entered = frees f off;
+    book = assumption h.book;
+    event = h.event;
+  }
+    where
+      is : (f : Filled) → IsFilled (with_facts old facts missed) put answer f → IsFilled old put answer f
+      is Row h = h
+      is (Released fault) h = (
+        h.0,
+        h.1,
+        λ room.
+            let r = h.2 room in
+            record { mark = r.mark; above = r.above; noted = r.noted; row = r.row; spent = r.spent },
+      )
+      is NotExpected h = h
+
+      frees : (f : Filled) → (f ≡ Row → ⊥) → EntersOrFrees old put answer f
+      frees Row off = absurd (off refl)
+      frees (Released fault) off = h.rows
+      frees NotExpected off = tt

@@ -24,6 +24,8 @@ with_rows d q arrivals texts = record {
   arrivals = arrivals;
   texts = texts;
   refused = d.refused;
+  facts = d.facts;
+  missed = d.missed;
 }
 
 -- what stands after an edit that is felt from here and gives this document, with these marks
@@ -109,6 +111,7 @@ pub edit_keeps : (d : BookState) (asked : Asked) (felt : Option Mark) (marks : L
 edit_keeps d asked felt marks right so are = record {
   table = refl;
   entries = refl;
+  remembered = record { facts = refl; missed = refl };
   arrivals = λ m. arrivals_stay d (changed d.plan asked).plan felt marks m right.marks are;
   texts = λ id. texts_after d asked felt marks id so right.bookmarks;
 }

@@ -1,10 +1,10 @@
 -- Jobs that rows expect, and what their answers give.
-use Rattle.dependency_book.proofs.Names.{All-push, Answer, BookState, Bookmark, Bool, Calls, CanBePut, CanIssue, Cursor, Empty, Entry, Err, Expected, Fact, IfOk, IfSome, IsCancel, IsCollect, IsEntryFrom, IsFilled, IsGiven, IsIssue}
+use Rattle.dependency_book.proofs.Names.{All-push, Answer, AreGiven, BookState, Bookmark, Bool, Calls, CanBePut, CanIssue, Cursor, Empty, Entry, Err, Expected, Fact, IfOk, IfSome, IsCancel, IsCollect, IsEntryFrom, IsFilled, IsGiven, IsIssue}
 use Rattle.dependency_book.proofs.Names.{IsKeptBook, IsNext, IsNextJob, IsOf, IsRightAnswer, IsRightBook, IsTrueAnswer, Job, JobResult, List, Mark, Need, None, NotExpected, Ok, Option, Place, Plan, PutsRow, Result, RowState, Some, Step}
 use Rattle.dependency_book.proofs.Names.{StepExpects, TakesAnswer, Value, View, [], after_event, answer_said, answered, ap, arith, awaits, bookmark_id, bookmark_in, bookmark_rank, can_change, cancelled, cancels, clash, collects, core_of}
 use Rattle.dependency_book.proofs.Names.{either_way, entry_of, eq_false, eq_true, expected, false, filled_by, fun_ext, get_last, get_left, given_by, has_id, has_mark, has_number, if◌then◌else◌, index_of, inl, inr, is_job, is_mark, is_need}
 use Rattle.dependency_book.proofs.Names.{is_start, job_of, keys, mark_at, mark_rank, missing, nat_tests, need_is, need_same, nothing, plain_row, refl, row_of, said, said_at, slice_get, state_map, step_to, steps, subst, sym, text}
-use Rattle.dependency_book.proofs.Names.{text_wanted, true, value, value_in, with_refusal, ℕ, ◌++◌, ◌∙◌, ◌∷◌, ◌≡◌, ◌⊎◌}
+use Rattle.dependency_book.proofs.Names.{text_wanted, true, value, value_in, ℕ, ◌++◌, ◌∙◌, ◌∷◌, ◌≡◌, ◌⊎◌}
 use Rattle.step_engine.specs.declared.evolved.EvolveFault.{EvolveFault}
 use Rattle.revision_jobs.specs.declared.entry.Entry.TheVariants as entry
 use Rattle.revision_jobs.specs.Room.{HasNoRoom}
@@ -135,26 +135,32 @@ module _ {d : BookState} {need : Need} {job : Job} (next : IsNextJob d need job)
         };
       }
 
--- the book in which an issue more was refused
+-- the book in which more was refused, or other steps are remembered
 
-right_refused : (d : BookState) → IsRightBook d → IsRightBook (with_refusal d)
-right_refused d right = record {
+abbrev noted : BookState → ℕ → List Fact → ℕ → BookState
+noted d refused facts missed = record d { refused = refused; facts = facts; missed = missed }
+
+pub right_noted : (d : BookState) (refused : ℕ) (facts : List Fact) (missed : ℕ) → IsRightBook d
+    → IsRightBook (noted d refused facts missed)
+right_noted d refused facts missed right = record {
   core = right.core;
   marks = right.marks;
   bookmarks = right.bookmarks;
   out = λ other out is. assumption (right.out other out is);
 }
 
-pub kept_refused : {d : BookState} {places : List ℕ} {cursor : Cursor} {issued : List Place}
-    {facts : List Fact}
-    → IsKeptBook d places cursor issued facts → IsKeptBook (with_refusal d) places cursor issued facts
-kept_refused {d} {places} kept =
+pub kept_noted : {d : BookState} {places : List ℕ} {cursor : Cursor} {issued : List Place}
+    {facts : List Fact} (refused : ℕ) (later : List Fact) (missed : ℕ)
+    → AreGiven d.entries later → IsKeptBook d places cursor issued facts
+    → IsKeptBook (noted d refused later missed) places cursor issued later
+kept_noted {d} {places} refused later missed given kept =
     let held = kept.held in
     record {
-      held = held_by (with_refusal d) places held.places (right_refused d held.right);
+      held = held_by (noted d refused later missed) places held.places
+          (right_noted d refused later missed held.right);
       passed = assumption kept.passed;
       own = kept.own;
-      facts = kept.facts;
+      facts = given;
     }
 
 -- what stands in a row where the job of a number is out, at a place, for the row of one need: that job in
@@ -262,6 +268,7 @@ none_takes d none = record {
   filled = (none, refl);
   rows = λ need. let off = none need in sym (rw off refl);
   book = same_book d;
+  remembered = record { facts = refl; missed = refl };
   event = refl;
 }
 
@@ -346,6 +353,7 @@ module _ {d : BookState} {need : Need} {place : Place} {answer : JobResult}
         ∙ answered_if answer (is_need need other) place (row_of d other) h.index
         (one_out need h.right h.out other);
     book = puts.book;
+    remembered = puts.remembered;
     event = collects_by answer.outcome;
   }
     where

@@ -16,10 +16,12 @@ use Rattle.desk_events.specs.Marks.{is_start, mark_at}
 use Rattle.dependency_book.specs.RowState.{known, is_known, is_empty, job_of, state_map}
 use Rattle.dependency_book.specs.Rows.{ArrivalRow, TextRow, state_at, bookmark_rank}
 use Rattle.document_marks.specs.AllMarks.{mark_rank}
+use Rattle.step_facts.specs.Known.{Fact}
 
 -- the table of entries that its jobs are of, the document, the entry of each number that was given,
--- a row for each of the document's marks but the start, a row for each of its bookmarks, and how
--- often an issue was refused because memory ran out
+-- a row for each of the document's marks but the start, a row for each of its bookmarks, how often
+-- an issue was refused because memory ran out, the steps that are remembered with what came of them,
+-- and how often memory was wanting for remembering one or looking one up
 pub record BookState : Type 0 where
   pub table : Entries
   pub plan : Plan
@@ -27,6 +29,8 @@ pub record BookState : Type 0 where
   pub arrivals : List ArrivalRow
   pub texts : List TextRow
   pub refused : ℕ
+  pub facts : List Fact
+  pub missed : ℕ
 
 -- the book of the opening document, of which nothing is known or out
 abbrev pub opened : Entries → ℕ → BookState
@@ -37,11 +41,26 @@ opened table revision = record {
   arrivals = [];
   texts = [];
   refused = 0;
+  facts = [];
+  missed = 0;
 }
 
 -- the book with one more issue refused
 abbrev pub with_refusal : BookState → BookState
 with_refusal d = record d { refused = d.refused + 1 }
+
+-- the book that remembers these steps, for which memory was wanting so often
+abbrev pub with_facts : BookState → List Fact → ℕ → BookState
+with_facts d facts missed = record d { facts = facts; missed = missed }
+
+-- nothing changes but what is remembered
+abbrev pub SameButFacts : BookState → BookState → Type 0
+SameButFacts old new = new ≡ with_facts old new.facts new.missed
+
+-- what is remembered is the same
+pub record SameFacts (old new : BookState) : Type 0 where
+  pub facts : new.facts ≡ old.facts
+  pub missed : new.missed ≡ old.missed
 
 -- how many numbers of jobs were given
 abbrev pub given_of : BookState → ℕ

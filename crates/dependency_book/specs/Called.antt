@@ -9,7 +9,7 @@ use Rattle.desk_events.specs.Event.{cancels, collects, edits, issues}
 use Rattle.desk_events.specs.Law.{Calls}
 use Rattle.dependency_book.specs.declared.filled.Filled.{Filled}
 use Rattle.dependency_book.specs.declared.filled.Filled.TheVariants.{Row, Released, NotExpected}
-use Rattle.dependency_book.specs.BookState.{BookState, row_of, empty_rows_of}
+use Rattle.dependency_book.specs.BookState.{BookState, SameFacts, row_of, empty_rows_of}
 use Rattle.dependency_book.specs.Core.{core_of}
 use Rattle.dependency_book.specs.Jobs.{IsFilled, SameBook, SameDocument, answered, issued}
 use Rattle.dependency_book.specs.Said.{answer_said, said_at}
@@ -29,12 +29,12 @@ pub record IsIssue (need : Need) (job : Job) (old new : BookState) : Type 0 wher
   pub fewer : empty_rows_of new + 1 ≡ empty_rows_of old
   pub event : Calls (issues need (said_at job.place)) (core_of old) (core_of new)
 
--- an answer that a row expects is collected; any other changes nothing
+-- an answer that a row expects is collected; in the law any other changes nothing
 abbrev pub IsCollect : JobResult → BookState → BookState → Filled → Type 0
 IsCollect answer old new Row = Calls (collects (answer_said answer)) (core_of old) (core_of new)
 IsCollect answer old new (Released fault) =
     Calls (collects (answer_said answer)) (core_of old) (core_of new)
-IsCollect answer old new NotExpected = new ≡ old
+IsCollect answer old new NotExpected = core_of new ≡ core_of old
 
 -- what a book that takes an answer changes: no row but that which expects its job, as an event of
 -- the law does
@@ -42,6 +42,7 @@ pub record TakesAnswer (answer : JobResult) (old new : BookState) (result : Fill
   pub filled : IsFilled old new answer result
   pub rows : (need : Need) → row_of new need ≡ answered answer (row_of old need)
   pub book : SameBook old new
+  pub remembered : SameFacts old new
   pub event : IsCollect answer old new result
 
 -- the job of a number is cancelled

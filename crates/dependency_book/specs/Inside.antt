@@ -12,4 +12,6 @@ state_of book = record {
   arrivals = book.arrivals.items;
   texts = book.texts.items;
   refused = book.refused;
+  facts = book.facts.list;
+  missed = book.missed;
 }

@@ -1,5 +1,5 @@
 -- What jobs and their answers change in the rows of a book.
-use Rattle.std.specs.Prelude.{◌≡◌, ℕ, ◌≤◌, ◌<◌, Bool, false, ◌&&◌, Option, None, Some, IfSome, IsSome, Result, Ok, Err, if◌then◌else◌, ◌==◌, true, ⊤}
+use Rattle.std.specs.Prelude.{◌≡◌, ℕ, ◌≤◌, ◌<◌, Bool, false, ◌&&◌, Option, None, Some, IfSome, IsSome, Result, Ok, Err, if◌then◌else◌, ◌==◌, true}
 use Rattle.std.specs.Result.{IsOk}
 use Rattle.step_engine.specs.declared.evolved.EvolveFault.{EvolveFault}
 use Rattle.revision_jobs.specs.declared.answer.Job.{Job}
@@ -16,7 +16,7 @@ use Rattle.desk_events.specs.declared.mark.Mark.{Mark}
 use Rattle.desk_events.specs.declared.need.Need.{Need}
 use Rattle.dependency_book.specs.Entered.{IsEntryOf}
 use Rattle.dependency_book.specs.RowState.{job_of, has_number}
-use Rattle.dependency_book.specs.BookState.{BookState, NothingOut, expected, given_of, row_of, empty_rows_of}
+use Rattle.dependency_book.specs.BookState.{BookState, NothingOut, SameButFacts, expected, given_of, row_of, empty_rows_of}
 use Rattle.desk_events.specs.Marks.{is_mark, is_start}
 use Rattle.dependency_book.specs.Needs.{IsNext}
 use Rattle.dependency_book.specs.Rows.{keys}
@@ -68,7 +68,7 @@ pub record StepExpects (d : BookState) (answer : JobResult) : Type 0 where
 
 -- what came of an answer: a row was filled, and no more rows are empty; or it expects nothing any
 -- more because the job gave up, for want of room if it is a step's; or no row expects the job, and
--- nothing changes
+-- nothing changes but what is remembered
 abbrev pub IsFilled : BookState → BookState → JobResult → Filled → Type 0
 IsFilled old new answer Row =
     IsExpected old answer.job × IsOk answer.outcome × (empty_rows_of new ≤ empty_rows_of old)
@@ -77,14 +77,7 @@ IsFilled old new answer (Released fault) =
     × (answer.outcome ≡ Err fault)
     × (fault ≡ EvolveFault.NoRoom → StepExpects old answer)
 IsFilled old new answer NotExpected =
-    ((need : Need) → is_job answer.job (expected old need) ≡ false) × (new ≡ old)
-
--- where the job of an answer gave up, the answer changes the row that expects it and no other
-abbrev pub FreesOne : BookState → BookState → JobResult → Filled → Type 0
-FreesOne old new answer Row = ⊤
-FreesOne old new answer (Released fault) =
-    (need : Need) → row_of new need ≡ answered answer (row_of old need)
-FreesOne old new answer NotExpected = ⊤
+    ((need : Need) → is_job answer.job (expected old need) ≡ false) × SameButFacts old new
 
 -- no row expects a job of this number
 abbrev pub NoneExpects : BookState → ℕ → Type 0

@@ -9,7 +9,7 @@ use Rattle.dependency_book.specs.declared.row.RowState.{RowState}
 use Rattle.dependency_book.specs.declared.row.RowState.TheVariants.{Empty, Known}
 use Rattle.desk_events.specs.declared.mark.Mark.{Mark}
 use Rattle.desk_events.specs.Marks.{bookmark_mark, is_start}
-use Rattle.dependency_book.specs.BookState.{BookState, arrival_row, arrival_known, text_row}
+use Rattle.dependency_book.specs.BookState.{BookState, SameFacts, arrival_row, arrival_known, text_row}
 use Rattle.desk_events.specs.Wanted.{bookmark_in}
 use Rattle.desk_events.specs.Felt.{IsFelt}
 use Rattle.desk_events.specs.Kept.{keeps_arrival, leaves_after, keeps_text, stays_mark}
@@ -47,6 +47,7 @@ arrival_after felt p q m state =
 pub record KeepsRows (asked : Asked) (felt : Option Mark) (old new : BookState) : Type 0 where
   pub table : new.table ≡ old.table
   pub entries : new.entries ≡ old.entries
+  pub remembered : SameFacts old new
   pub arrivals : (m : Mark) →
       arrival_row new m ≡ arrival_after felt old.plan new.plan m (arrival_row old m)
   pub texts : (id : ℕ) →

@@ -9,7 +9,7 @@ use Rattle.dependency_book.specs.declared.filled.Filled.TheVariants.{Row, Releas
 use Rattle.dependency_book.specs.declared.row.RowState.{RowState}
 use Rattle.desk_events.specs.declared.need.Need.{Need}
 use Rattle.dependency_book.specs.RowState.{is_empty, job_of}
-use Rattle.dependency_book.specs.BookState.{BookState, row_of, empty_rows_of}
+use Rattle.dependency_book.specs.BookState.{BookState, SameFacts, row_of, empty_rows_of}
 use Rattle.desk_events.specs.declared.need.Need.TheVariants.{Step, View}
 use Rattle.dependency_book.specs.Jobs.{SameBook}
 use Rattle.desk_events.specs.Needs.{is_need}
@@ -42,6 +42,7 @@ pub record PutsRow (need : Need) (state : RowState Value) (old new : BookState) 
   pub rows : (other : Need) →
       row_of new other ≡ (if is_need need other then state else row_of old other)
   pub wanting : empty_rows_of new + missing (row_of old need) ≡ empty_rows_of old + missing state
+  pub remembered : SameFacts old new
 
 -- what came of an outcome that is put
 abbrev pub filled_by : Result Value EvolveFault → Filled

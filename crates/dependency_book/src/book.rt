@@ -36,6 +36,8 @@ pub struct Book<'e> {
     pub(crate) facts: Facts,
     // How often an issue was refused.
     pub(crate) refused: Refusals,
+    // How often memory was wanting for keeping a fact or looking for one.
+    pub(crate) missed: Refusals,
     pub(crate) alloc: Global,
 }
 
@@ -52,6 +54,7 @@ impl Drop for Book<'_> {
             cursor: _,
             facts: _,
             refused: _,
+            missed: _,
             alloc: _,
         } = self;
     }
@@ -97,6 +100,7 @@ impl<'e> Book<'e> {
             cursor: Cursor::start(),
             facts: Facts::new(alloc, facts),
             refused: Refusals::none(),
+            missed: Refusals::none(),
             alloc,
         })
     }

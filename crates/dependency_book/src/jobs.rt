@@ -8,12 +8,12 @@ ghost use Rattle.dependency_book.specs.declared.row.RowState.TheVariants.{Empty,
 ghost use Rattle.dependency_book.specs.RowState.{state_map};
 ghost use Rattle.dependency_book.specs.Jobs.{cancelled, given_by};
 ghost use Rattle.dependency_book.specs.Jobs.{IsAnyOut, IsFilled, IsFirstOut, IsForgotten};
-ghost use Rattle.dependency_book.specs.Jobs.{Expects, FreesOne, IsNextJob, NoneExpects, SameBook};
+ghost use Rattle.dependency_book.specs.Jobs.{Expects, IsNextJob, NoneExpects, SameBook};
 ghost use Rattle.dependency_book.specs.Jobs.{SameDocument};
 ghost use Rattle.desk_events.specs.Needs.{step_to};
 ghost use Rattle.dependency_book.specs.BookState.{given_of, row_of, with_refusal};
 ghost use Rattle.dependency_book.specs.Called.{IsCancel, IsCollect, IsIssue, TakesAnswer};
-ghost use Rattle.dependency_book.specs.Recalled.{Fills};
+ghost use Rattle.dependency_book.specs.Recalled.{EntersOrFrees, Fills};
 ghost use Rattle.dependency_book.specs.Right.{IsRightBook};
 ghost use Rattle.dependency_book.specs.Puts.{CanBePut, PutsRow, filled_by};
 
@@ -83,7 +83,7 @@ impl Book<'_> {
         requires own { IsOf self.old.table answer.job.place }
         ensures filled { IsFilled self.old self.new answer result }
         ensures fills { Fills answer self.old self.new }
-        ensures freed { FreesOne self.old self.new answer result }
+        ensures entered { EntersOrFrees self.old self.new answer result }
         ensures book { SameBook self.old self.new }
         ensures event { IsCollect answer self.old self.new result }
         ensures right { IsRightBook self.new }

@@ -1,12 +1,13 @@
 //! What was computed before.
-ghost use Rattle.std.specs.Prelude.{◌≡◌, ◌<◌, length, IsTrue};
+ghost use Rattle.std.specs.Prelude.{◌≡◌, ◌<◌, ◌≤◌, length, slice_index_or, IsTrue};
 ghost use Rattle.revision_jobs.specs.Answer.{IsRightAnswer, outcome_of};
 ghost use Rattle.revision_jobs.specs.Entries.{IsOf};
-ghost use Rattle.dependency_book.specs.BookState.{row_of};
+ghost use Rattle.dependency_book.specs.BookState.{SameButFacts, row_of};
 ghost use Rattle.desk_events.specs.Needs.{step_to};
 ghost use Rattle.dependency_book.specs.Needs.{IsLedTo};
-ghost use Rattle.dependency_book.specs.Recalled.{EntersSteps};
+ghost use Rattle.dependency_book.specs.Recalled.{LooksUp, LooksUpAll};
 ghost use Rattle.dependency_book.specs.Right.{IsGiven, IsRightBook};
+ghost use Rattle.dependency_book.specs.Rows.{ArrivalRow};
 ghost use Rattle.dependency_book.specs.declared.row.RowState.TheVariants.{Empty};
 
 use crate::arrival::Arrival;
@@ -22,7 +23,8 @@ impl Book<'_> {
     pub(crate) fn keep_fact(&mut self, parts: &Parts)
         requires own { IsOf self.old.table parts.now.job.place }
         requires right { IsRightAnswer parts.now.job parts.now.limit (outcome_of parts.now.outcome) }
-        ensures { self.new ≡ self.old }
+        ensures same { SameButFacts self.old self.new }
+        ensures missed { self.old.missed ≤ self.new.missed }
     {
         let Outcome::Plane(plane) = &parts.outcome else {
             return;
@@ -33,7 +35,10 @@ impl Book<'_> {
         let Entry::Step(step) = self.entries.at(&parts.job.place) else {
             return;
         };
-        let _ = self.facts.keep(step, plane);
+        let kept = self.facts.keep(step, plane);
+        if kept.is_err() {
+            self.missed.note();
+        }
     }
 
     // Whether the number of a job was given for its entry.
@@ -51,7 +56,7 @@ impl Book<'_> {
     /// is known and no job is out. No step leads to a row before the cursor. Where there is no memory
     /// for a look a row stays empty.
     pub(crate) fn recall_all(&mut self)
-        ensures recalls { EntersSteps self.old self.new }
+        ensures all { LooksUpAll self.old self.new }
         ensures right { IsRightBook self.new }
     {
         for place in self.cursor.steps..self.arrivals.len() {
@@ -62,7 +67,8 @@ impl Book<'_> {
     // Enters it in the row at a place.
     fn recall_at(&mut self, place: usize)
         requires { place < length self.old.arrivals }
-        ensures recalls { EntersSteps self.old self.new }
+        ensures looks { (x : ArrivalRow) →
+            LooksUp (slice_index_or self.old.arrivals place x).key self.old self.new }
         ensures right { IsRightBook self.new }
     {
         if !can_step(&self.document, &self.arrivals, place) {
@@ -76,13 +82,18 @@ impl Book<'_> {
     fn recall(&mut self, mark: Mark)
         requires led { IsLedTo self.old mark }
         requires empty { row_of self.old (step_to mark) ≡ Empty }
-        ensures recalls { EntersSteps self.old self.new }
+        ensures looks { LooksUp mark self.old self.new }
         ensures right { IsRightBook self.new }
     {
         let Ok(step) = self.step_to(mark) else {
+            self.missed.note();
             return;
         };
-        let Ok(Some(plane)) = self.facts.recall(&step) else {
+        let Ok(found) = self.facts.recall(&step) else {
+            self.missed.note();
+            return;
+        };
+        let Some(plane) = found else {
             return;
         };
         self.put_arrival(mark, RowState::Known(Arrival::of(plane)));

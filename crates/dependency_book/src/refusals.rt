@@ -1,11 +1,11 @@
-//! How often issues were refused.
+//! How often memory was wanting.
 ghost use Rattle.std.specs.Prelude.{◌≡◌, ◌+◌};
 
 use boxcar::tag::{Names, Tag};
 use std::marker::Model;
 
-/// How often issues were refused. It takes no bytes and so has no last number, and clauses alone
-/// see it.
+/// How often memory was wanting for something. It takes no bytes and so has no last number, and
+/// clauses alone see it.
 #[derive(Drop)]
 pub(crate) struct Refusals {
     tag: Tag,

@@ -86,6 +86,49 @@ const KNOWN_AT_ONCE: &[Act] = &[
     Act::Shows(2, "empty\n"),
 ];
 
+// So it is where another job came first.
+const KNOWN_OF_A_LATER_JOB: &[Act] = &[
+    Act::Mark(0),
+    Act::Compute(Need::View { id: 1 }),
+    Act::Mark(4),
+    Act::Mark(8),
+    Act::Compute(Need::Step { branch: 0, mark: 4 }),
+    Act::Compute(Need::View { id: 2 }),
+    Act::Compute(Need::View { id: 3 }),
+    Act::Next(None),
+];
+
+// The step from 0 to 8, with an intervention at 4 between that is taken back.
+const KNOWN_AGAIN: &[Act] = &[
+    Act::Start,
+    Act::Mark(8),
+    Act::Compute(Need::Step { branch: 0, mark: 8 }),
+    Act::Compute(Need::View { id: 1 }),
+    Act::Insert {
+        generation: 4,
+        x: 1,
+    },
+    Act::Next(Some(Need::Step { branch: 0, mark: 4 })),
+    Act::Remove(1),
+    Act::Compute(Need::View { id: 1 }),
+    Act::Next(None),
+];
+
+// Its answer comes while no row expects it.
+const KNOWN_OF_A_LATE_ANSWER: &[Act] = &[
+    Act::Start,
+    Act::Mark(8),
+    Act::Issue(Need::Step { branch: 0, mark: 8 }),
+    Act::Insert {
+        generation: 4,
+        x: 1,
+    },
+    Act::Fill(Filled::NotExpected),
+    Act::Remove(1),
+    Act::Compute(Need::View { id: 1 }),
+    Act::Next(None),
+];
+
 const VIEWS_BEFORE_STEPS: &[Act] = &[
     Act::Start,
     Act::Mark(2),
@@ -395,7 +438,16 @@ fn opens(rt: HostRuntime) {
 
 #[test]
 fn step_that_was_computed_is_known_at_once(rt: HostRuntime) {
-    play(&rt, rt.alloc(), &[], KNOWN_AT_ONCE);
+    let alloc = rt.alloc();
+    play(&rt, alloc, &[], KNOWN_AT_ONCE);
+    play(&rt, alloc, &[], KNOWN_OF_A_LATER_JOB);
+}
+
+#[test]
+fn step_that_was_computed_is_known_again_after_an_edit(rt: HostRuntime) {
+    let alloc = rt.alloc();
+    play(&rt, alloc, &[], KNOWN_AGAIN);
+    play(&rt, alloc, &[], KNOWN_OF_A_LATE_ANSWER);
 }
 
 #[test]

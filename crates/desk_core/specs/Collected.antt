@@ -10,15 +10,18 @@ use Rattle.dependency_book.specs.Core.{core_of}
 use Rattle.dependency_book.specs.RowState.{has_number}
 use Rattle.dependency_book.specs.Said.{answer_said}
 use Rattle.dependency_book.specs.Jobs.{IsExpected, StepExpects, is_job}
-use Rattle.dependency_book.specs.BookState.{BookState, expected, empty_rows_of}
+use Rattle.dependency_book.specs.BookState.{BookState, SameButFacts, expected, empty_rows_of}
+use Rattle.dependency_book.specs.Recalled.{LeavesNone}
 use Rattle.desk_core.specs.declared.collect.Collected.{Collected}
 use Rattle.desk_core.specs.declared.collect.Collected.TheVariants.{Accepted, Released, Stale}
 
--- a row expects the job of an answer with a value, and no more rows are empty afterwards
+-- a row expects the job of an answer with a value; no more rows are empty afterwards, and all that
+-- is known by steps that were computed before was entered
 pub record IsAccepted (old new : BookState) (answer : JobResult) : Type 0 where
   pub expected : IsExpected old answer.job
   pub value : IsOk answer.outcome
   pub wanting : empty_rows_of new ≤ empty_rows_of old
+  pub entered : LeavesNone old new
 
 -- a row expects the job of an answer that says why there is no value: want of room only of a step
 -- that has none at the limit that the job was worked with
@@ -28,12 +31,12 @@ pub record IsReleased (old : BookState) (answer : JobResult) (fault : EvolveFaul
   pub room : fault ≡ EvolveFault.NoRoom → StepExpects old answer
 
 -- no row expects the job of an answer, which is told with its number and the present revision, and
--- nothing changes
+-- nothing changes but what is remembered
 pub record IsStale (old new : BookState) (answer : JobResult) (number revision : ℕ) : Type 0 where
   pub unexpected : (need : Need) → is_job answer.job (expected old need) ≡ false
   pub job : number ≡ answer.job.number
   pub present : revision ≡ new.plan.revision
-  pub same : new ≡ old
+  pub same : SameButFacts old new
 
 -- what came of an answer
 abbrev pub IsCollected : BookState → BookState → JobResult → Collected → Type 0
@@ -51,4 +54,4 @@ IsEvent old new answer Accepted =
     Calls (collects (answer_said answer)) (core_of old) (core_of new)
 IsEvent old new answer (Released fault) =
     Calls (collects (answer_said answer)) (core_of old) (core_of new)
-IsEvent old new answer (Stale number revision) = new ≡ old
+IsEvent old new answer (Stale number revision) = core_of new ≡ core_of old

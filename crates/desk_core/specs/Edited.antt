@@ -9,8 +9,8 @@ use Rattle.dependency_book.specs.Called.{IsEdit}
 use Rattle.dependency_book.specs.Recalled.{Revises}
 
 -- the document is the changed one, of the same table, and no number of a job was given; in the rows
--- stands what the edit keeps, and what is known by steps that were computed before was entered; in
--- the law this is the event of the edit
+-- stands what the edit keeps, and all that is known by steps that were computed before was entered;
+-- in the law this is the event of the edit
 pub record Makes (asked : Asked) (old new : BookState) (edited : Edited) : Type 0 where
   pub changed : change old.plan asked ≡ Ok (made new.plan edited)
   pub table : new.table ≡ old.table

@@ -13,7 +13,7 @@ is_call (refuses NumbersSpent) c d h = inr (ap core_of h.2)
 is_call (refuses NoMemory) c d h = inr (ap core_of h.2)
 is_call (collects answer Accepted) c d h = inl (_, h.event)
 is_call (collects answer (Released fault)) c d h = inl (_, h.event)
-is_call (collects answer (Stale number revision)) c d h = inr (ap core_of h.event)
+is_call (collects answer (Stale number revision)) c d h = inr h.event
 is_call (cancels number) c d h = inl (_, h.event)
 
 pub calls_of_law : AreOfLaw

@@ -10,6 +10,7 @@ invariant_of-result c =
       c.new-3.ensures.items,
       c.new-4.ensures.items,
       c.none.ensures,
+      c.none-2.ensures,
       c.start.ensures,
       c.new-5.ensures,
     ) (opened_kept c.args.entries.now c.args.revision)

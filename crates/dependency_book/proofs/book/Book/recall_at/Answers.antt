@@ -1,6 +1,7 @@
-use Rattle.dependency_book.proofs.Names.{ap, pattern, state_map, sym, ◌∙◌}
+use Rattle.dependency_book.proofs.Names.{CanBeReached, ap, arith, clash, pattern, refl, state_map, sym, ◌∙◌}
 use Rattle.dependency_book.proofs.Found.{held_back}
-use Rattle.dependency_book.proofs.Needed.{steps_there}
+use Rattle.dependency_book.proofs.Left.{looks_only}
+use Rattle.dependency_book.proofs.Needed.{reached_at, steps_there}
 use Rattle.dependency_book.proofs.book.Book.recall_at.Goals as goal
 
 pub can_step-requires-clause-held_back : goal.can_step-requires-clause-held_back
@@ -16,3 +17,11 @@ recall-requires c =
       led = rw (← c.self.view_is) there.led;
       empty = rw (← c.self.view_is) (ap (state_map pattern) there.empty);
     }
+
+pub returns-then-not-can_step-clause-looks : goal.returns-then-not-can_step-clause-looks
+returns-then-not-can_step-clause-looks c = λ x.
+    let low = rw (← c.self.view_is) at c.requires in
+    let off = rw c.deref.ensures.value at (sym (c.can_step.ensures x) ∙ c.if-not-can_step.true) in
+    looks_only {d = c.args.self.now} {e = c.args.self.now} refl (λ s. refl) (omega arith)
+    (λ same can. clash _
+    (reached_at c.self.invariant.held c.args.place x low (rw (← c.self.view_is) at can)) off)
