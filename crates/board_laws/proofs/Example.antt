@@ -1,13 +1,11 @@
 -- The worked pictures.
-use Rattle.std.proofs.Common.{refl}
-use Rattle.dependency_book.specs.declared.row.RowState.TheVariants.{Empty, Known}
+use Rattle.std.proofs.Common.{inl, refl}
 use Rattle.desk_server.specs.declared.reply.Reply.TheVariants.{Settled, Shown}
-use Rattle.board_laws.specs.Example.{PicturesOfOne, counted, desk_with}
+use Rattle.board_laws.specs.Example.{PicturesOfOne}
 
 pub pictures_of_one : PicturesOfOne
 pictures_of_one = record {
   settled = λ table. record {
-    desk = desk_with table (Known counted);
     reply = Settled;
     gives = refl;
     pending = (refl, tt);
@@ -15,7 +13,6 @@ pictures_of_one = record {
     right = record { bookmarks = refl; right = (refl, tt) };
   };
   current = λ table. record {
-    desk = desk_with table (Known counted);
     reply = Shown 1;
     gives = refl;
     pending = tt;
@@ -23,11 +20,15 @@ pictures_of_one = record {
     right = record { bookmarks = refl; right = (refl, tt) };
   };
   pending = λ table. record {
-    desk = desk_with table Empty;
     reply = Shown 1;
     gives = refl;
     pending = tt;
     is = refl;
     right = record { bookmarks = refl; right = (tt, tt) };
+  };
+  peeked = λ post. record {
+    reply = Shown 1;
+    gives = refl;
+    left = record { by = (inl refl, refl); pending = tt; jobs = λ takes. absurd takes; silent = λ _. refl };
   };
 }

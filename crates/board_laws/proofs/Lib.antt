@@ -1,3 +1,4 @@
 pub mod Showings
 pub mod Told
+pub mod Same
 pub mod Example

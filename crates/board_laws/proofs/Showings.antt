@@ -14,9 +14,10 @@ use Rattle.desk_script.specs.Asks.{Ask}
 use Rattle.desk_server.specs.Answer.{After}
 use Rattle.desk_server.specs.Served.{GivesAnswer}
 use Rattle.desk_server.specs.Script.{Answered}
-use Rattle.desk_server.specs.Told.{TellsPending, IsRefused}
+use Rattle.desk_server.specs.Told.{IsRefused}
+use Rattle.desk_server.specs.Desks.{LeavesDesk}
 use Rattle.desk_server.specs.Watch.{HasToCompute, WatchesComputing, WatchesReply, Moment, PublishedOrCounted, NotesReply, NotesEach}
-use Rattle.board_laws.specs.Showings.{ArePicturesOf, Showing, ShowAnswers, may_compute, pictures_in, is_left_out, ShowsAllUnlessCounted}
+use Rattle.board_laws.specs.Showings.{ArePicturesOf, Showing, ShowAnswers, may_compute, pictures_in, is_left_out, there, ShowsAllUnlessCounted}
 use Rattle.desk_server.specs.declared.reply.Reply.{Reply}
 
 module _ {V : Type 0} (notes : V → BookState → V → Type 0) where
@@ -104,7 +105,7 @@ shown_before one r p q d e old new gives watched = by watched.looks
 record Shows (old new : Moment BoardHistory) (given : List Answered) : Type 0 where
   showings : List Showing
   goes_on : new.seen ≡ history old.seen.board (old.seen.pictures ++ flat_map pictures_in showings)
-  answers : ShowAnswers showings given
+  answers : ShowAnswers (there old) (there new) showings given
   gave : length new.post.answers ≡ length old.post.answers + sum_by (λ (showing : Showing). showing.gave) showings
   left_out : new.missed < 2 ^ 64 - 1 → count_by is_left_out showings + old.missed ≡ new.missed
   all : new.missed ≡ 0 → AllByRecursion (λ (showing : Showing). IsSome showing.own) showings
@@ -114,10 +115,10 @@ one_if b = cond b 1 0
 
 shows_one : (old next new : Moment BoardHistory) (watched : BoardHistory) (x : Answered) (xs : List Answered) (r : Reply)
     → old.missed ≤ 2 ^ 64 - 1 → next.missed ≤ new.missed → Shown x old.post next.post old.seen watched
-    → GivesAnswer x.1 r next.desk → TellsPending r next.desk
+    → GivesAnswer x.1 r next.desk → LeavesDesk x.0 r old.post next.post old.desk next.desk
     → PublishedOrCounted ShowsNext old.missed next.missed watched next.desk next.seen → Shows next new xs
     → Shows old new (x ∷ xs)
-shows_one old next new watched x xs r low up shown gives pending (inl noted) rest =
+shows_one old next new watched x xs r low up shown gives left (inl noted) rest =
     let d = next.desk in
     let s = picture_of d in
     let right : IsRightPicture s = noted.0.0 in
@@ -134,11 +135,13 @@ shows_one old next new watched x xs r low up shown gives pending (inl noted) res
       goes_on = goes_over old.seen next.seen new.seen (seen.pictures ++ s ∷ []) (flat_map pictures_in rest.showings)
           (goes_over old.seen watched next.seen seen.pictures (s ∷ []) seen.goes_on is) rest.goes_on;
       answers = (
+        there next,
         record {
+          answers = record { reply = r; gives = gives; left = left };
           before = seen.are;
           few = seen.few;
           none = shown.none;
-          own = record { desk = d; reply = r; gives = gives; pending = pending; is = refl; right = right };
+          own = record { reply = r; gives = gives; pending = left.pending; is = refl; right = right };
         },
         rest.answers,
       );
@@ -146,7 +149,7 @@ shows_one old next new watched x xs r low up shown gives pending (inl noted) res
       left_out = λ small. omega (arith, rest.left_out small, same, counted);
       all = λ none. (refl, rest.all none);
     }
-shows_one old next new watched x xs r low up shown gives pending (inr passed) rest =
+shows_one old next new watched x xs r low up shown gives left (inr passed) rest =
     let is : next.missed ≡ u64_saturate (old.missed + 1) = passed.1 in
     let seen = shown.seen in
     let showing : Showing = record { gave = shown.gave; before = seen.pictures; own = None } in
@@ -159,7 +162,17 @@ shows_one old next new watched x xs r low up shown gives pending (inr passed) re
       goes_on = goes_over old.seen next.seen new.seen (seen.pictures ++ []) (flat_map pictures_in rest.showings)
           (goes_over old.seen watched next.seen seen.pictures [] seen.goes_on (goes_nowhere watched next.seen passed.0))
           rest.goes_on;
-      answers = (record { before = seen.are; few = seen.few; none = shown.none; own = tt }, rest.answers);
+      answers = (
+        there next,
+        record {
+          answers = record { reply = r; gives = gives; left = left };
+          before = seen.are;
+          few = seen.few;
+          none = shown.none;
+          own = tt;
+        },
+        rest.answers,
+      );
       gave = omega (arith, came, gave, summed);
       left_out = λ small. omega (arith, rest.left_out small, up, small, is, counted);
       all = λ none. absurd (omega (arith, up, none, is));
@@ -170,7 +183,7 @@ shows : (old new : Moment BoardHistory) (xs : List Answered) → old.missed ≤ 
 shows old new [] low noted = record {
   showings = [];
   goes_on = goes_nowhere old.seen new.seen (ap (λ (m : Moment BoardHistory). m.seen) noted);
-  answers = tt;
+  answers = ap there noted;
   gave = let same = ap (λ (m : Moment BoardHistory). length m.post.answers) noted in omega (arith, same);
   left_out = λ _. let same = ap (λ (m : Moment BoardHistory). m.missed) noted in omega (arith, same);
   all = λ _. tt;
@@ -182,7 +195,7 @@ shows old new (x ∷ xs) low noted =
     shows_one old next new one.watched x xs one.reply low
     (counts_up ShowsNext next new xs low_next noted.2)
     (shown_before x one.reply old.post next.post old.desk next.desk old.seen one.watched one.gives one.before)
-    one.gives one.pending one.noted
+    one.gives one.left one.noted
     (shows next new xs low_next noted.2)
 
 pub shows_all : ShowsAllUnlessCounted

@@ -38,6 +38,6 @@ as_told d r told pending is = record {
 }
 
 pub shows_told : ShowsWhatIsTold
-shows_told after s is =
+shows_told after d s is =
     subst (IsAsTold is.reply after.told) (sym is.is)
-    (as_told is.desk is.reply after.told is.pending (ap (λ (a : After). a.told) is.gives))
+    (as_told d is.reply after.told is.pending (ap (λ (a : After). a.told) is.gives))

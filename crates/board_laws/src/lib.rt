@@ -9,4 +9,7 @@
 
 mod laws;
 
-pub use laws::{pictures_of_one_bookmark, shows_all_unless_counted, shows_what_is_told};
+pub use laws::{
+    pictures_of_one_bookmark, shows_all_unless_counted, shows_the_same, shows_what_is_kept,
+    shows_what_is_told,
+};

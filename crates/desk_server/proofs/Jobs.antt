@@ -1,5 +1,6 @@
 -- What is out after jobs were dropped.
-use Rattle.desk_server.proofs.Names.{Asked, BookState, CarriesOn, Cause, DropsJobs, IfNone, IfSome, IsDoneWith, IsFirstOut, IsFresh, IsSome, JobResult, KeepsCauses, Learned, List, None, NothingOut, Option, PostMatchesDesk, PostView, SameBook, Some}
+use Rattle.desk_server.proofs.Names.{Asked, BookState, CarriesOn, Cause, DropsJobs, IfNone, IfSome, IsDoneWith, IsFirstOut, IsFresh, IsOpened, IsSome, JobResult, KeepsCauses, List, None, NothingOut, Option, PostMatchesDesk, PostView}
+use Rattle.desk_server.proofs.Names.{SameBook, Some}
 use Rattle.desk_server.proofs.Names.{ap, arith, cancelled, expected, false, has_number, job_of, length, nat_tests, opened, pending_of, refl, row_of, state_map, subst, sym, true, ℕ, ◌-◌, ◌<◌, ◌==◌, ◌^◌, ◌≡◌, ◌≢◌, ◌≤◌}
 use Rattle.revision_jobs.specs.declared.entries.Entries.{Entries}
 use Rattle.revision_jobs.specs.declared.answer.Job.{Job}
@@ -13,8 +14,9 @@ use Rattle.desk_events.specs.declared.mark.Mark.{Mark}
 use Rattle.dependency_book.specs.Recalled.{Revises}
 use Rattle.desk_core.proofs.Shared.Recalled.{recalls_out}
 use Rattle.desk_events.specs.Marks.{mark_at}
-use Rattle.desk_core.specs.Settling.{Explains, HoldsJobsOut, IsWhy, KeepsKnown, SawStop, ServesOn}
+use Rattle.desk_core.specs.Settling.{Explains, HoldsJobsOut, IsWhy, SawStop, ServesOn}
 use Rattle.dependency_book.specs.Right.{IsRightBook}
+use Rattle.dependency_book.proofs.Shared.Opened.{opened_held}
 use Rattle.desk_core.proofs.Shared.Given.{same_given}
 
 -- where nothing is dropped
@@ -78,6 +80,12 @@ edit_drops asked old new h = record {
 none_opened : (table : Entries) (held : Option Job) → HoldsJobsOut held (opened table 0)
 none_opened table held need job e = grind (arith, out_of_map)
 
+pub opened_right : (d : BookState) → IsOpened d → IsRightBook d
+opened_right d opens = subst IsRightBook (sym opens) (opened_held d.table 0).right
+
+pub is_opened : (d : BookState) (table : Entries) → d ≡ opened table 0 → IsOpened d
+is_opened d table same = subst IsOpened (sym same) refl
+
 pub carries_first : (post : PostView) (entries : Entries) (d : BookState) → d ≡ opened entries 0 → IsFresh post entries
     → PostMatchesDesk post d
 carries_first post entries d same fresh = rw same (record {
@@ -114,12 +122,6 @@ none_untold cause fact some = grind (arith)
 pub carries_served : (first last : PostView) (old new : BookState) → PostMatchesDesk first old → ServesOn first last old new
     → CarriesOn first last new
 carries_served first last old new c s = grind (arith)
-
--- what was learned is known still where jobs are given up behind it
-pub learned_then : (old mid new : BookState) → KeepsKnown old mid → IsRightBook mid → KeepsKnown mid new
-    → (IsRightBook mid → IsRightBook new) → Learned old new
-learned_then old mid new first right later keeps =
-    record { known = λ need value is. later need value (first need value is); right = keeps right }
 
 -- what a desk is left with that gave jobs up after a post carried on
 pub carries_on : (first last : PostView) (mid new : BookState) → DropsJobs mid new → CarriesOn first last mid

@@ -5,5 +5,6 @@ pub mod Rounds
 pub mod Noted
 pub mod Known
 pub mod Left
+pub mod Calls
 pub mod Lines
 pub mod Names

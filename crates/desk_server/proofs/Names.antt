@@ -6,25 +6,26 @@ pub use Rattle.dependency_book.specs.ShownRows.{shown_row, shown_rows}
 pub use Rattle.dependency_book.specs.declared.shown.Shown.TheVariants.{Current, NoSuch}
 pub use Rattle.desk_core.specs.declared.cause.Cause.{Cause}
 pub use Rattle.desk_script.proofs.Shared.Parts.{broken, more, wrote_then}
-pub use Rattle.desk_script.specs.Asks.{Ask, Between, Obey, Refuse, asks}
+pub use Rattle.desk_script.specs.Asks.{Ask, Between, Obey, Refuse, Take, asks}
 pub use Rattle.desk_script.specs.Heard.{AsksIfAny, BreaksOff, CanLackMemory, Hears, IsReadAs}
 pub use Rattle.desk_script.specs.Listed.{bookmark_line, branch_line, intervention_line, lines_of, listed_text}
 pub use Rattle.desk_script.specs.declared.command.Command.{Command}
 pub use Rattle.desk_script.specs.declared.fault.ScriptFault.{ScriptFault}
 pub use Rattle.desk_script.specs.declared.format.Format.{Format}
 pub use Rattle.desk_script.specs.declared.request.Request.{Request}
-pub use Rattle.desk_server.specs.Answer.{After, Session, accepted, answer, edited, edited_as, no_memory, only, opening_session, polled, refused, rule_text_after, scripted, session_after, settled, shown_id, started, taken, unless_fault, unless_memory, unless_unread, id_word}
-pub use Rattle.desk_server.specs.Desks.{AnswersAtDesks, AnswersAtEach, IsLeftBy, Learned, MeansEdit, RevisedOrSame, TakenOrSame}
+pub use Rattle.desk_server.specs.Answer.{After, Session, accepted, answer, edited, edited_as, no_memory, only, opening_session, polled, refused, rule_text_after, scripted, session_after, settled, shown_id, started, taken, unless_fault}
+pub use Rattle.desk_server.specs.Answer.{unless_memory, unless_unread, id_word}
+pub use Rattle.desk_server.specs.Desks.{AnswersAtDesks, AnswersAtEach, AnswersOver, ComputedFor, IsLeftBy, IsOpened, LeavesDesk, MeansEdit, RevisedOrSame, Standing, TakenOrSame, standing}
 pub use Rattle.desk_server.specs.Ending.{Completes, Works}
 pub use Rattle.desk_server.specs.Faults.{Fault, of_edit, of_macrocell, of_pattern, of_rule, of_script}
-pub use Rattle.desk_server.specs.Jobs.{CarriesOn, DropsJobs, IsDoneWith, IsFresh, KeepsCauses, PostMatchesDesk}
+pub use Rattle.desk_server.specs.Jobs.{CarriesOn, DropsJobs, IsDoneWith, IsFresh, KeepsCalls, KeepsCauses, PostMatchesDesk}
 pub use Rattle.desk_server.specs.Reply.{pending_text, refused_text, scripted_text}
-pub use Rattle.desk_server.specs.Run.{Answers, AnswersAll, AnswersFront, AnswersWhole, Finishes, StopsTelling}
+pub use Rattle.desk_server.specs.Run.{Answers, AnswersAll, AnswersAllOver, AnswersFront, AnswersWhole, Finishes, StopsTelling}
 pub use Rattle.desk_server.specs.Script.{Answered, afters, answered, answered_by, answered_with, but_bye, first_shortage, later_shortages, replies_to, replies_with, texts_of, told_to, unless_bye}
 pub use Rattle.desk_server.specs.Served.{AnswersRequest, GivesAnswer, GivesAnswerBy, KeepsTaken, KeepsText, IsShortOf, MayWant, Served, TakesBytes, TakesText, answer_to_text, kept_text, session}
 pub use Rattle.desk_server.specs.Shortage.{AllCausedOver, IsCaused, Known, Memory, NoShortage, Pending, Shortage, Still, Unread, Unsettled}
-pub use Rattle.desk_server.specs.Told.{AllKnown, IsRefused, PollsBy, TellsPending, ends, has_text, reply_text, row_line, shown_text}
-pub use Rattle.desk_server.specs.Watch.{AsksForAnswers, Draws, HasToCompute, Moment, NotesEach, NotesFront, NotesReplies, NotesScript, PublishedOrCounted, WatchesNext, WatchesReply, moment}
+pub use Rattle.desk_server.specs.Told.{AllKnown, IsRefused, LeavesOver, PollsBy, TakesAnswers, TellsPending, ends, has_text, reply_text, row_line, shown_text}
+pub use Rattle.desk_server.specs.Watch.{AsksForAnswers, Draws, HasToCompute, Moment, NotesEach, NotesFront, NotesReplies, NotesRun, NotesScript, PublishedOrCounted, WatchesNext, WatchesReply, moment}
 pub use Rattle.desk_server.specs.declared.reply.Reply.{Reply}
 pub use Rattle.revision_jobs.specs.Answer.{JobResult}
 pub use Rattle.revision_jobs.specs.Posted.{PostView}

@@ -1,10 +1,11 @@
 -- What is noted of one part of a run after the other.
 use Rattle.desk_server.proofs.Names.{After, Answered, Ask, AsksForAnswers, BookState, Command, Draws, Format, HasToCompute, IsReadAs, IsRefused, JobResult, List, Moment, NotesEach, Obey, PostView, PublishedOrCounted, Reply, Request}
-use Rattle.desk_server.proofs.Names.{AnswersAtDesks, AnswersAtEach, Bool, IsLeftBy, ScriptFault, TellsPending, KeptText, WatchesNext, WatchesReply, [], ap, append-nil, arith, but_bye, cond, ends, false, moment, opening, refl}
+use Rattle.desk_server.proofs.Names.{AnswersAtDesks, AnswersAtEach, AnswersOver, Bool, IsOpened, LeavesDesk, ScriptFault, KeptText, Standing, standing, WatchesNext, WatchesReply, [], ap, append-nil, arith, but_bye, cond, ends, false}
+use Rattle.desk_server.proofs.Names.{moment, refl}
 use Rattle.desk_server.proofs.Names.{reply_text, subst, sym, true, ℕ, ◌++◌, ◌∙◌, ◌∷◌, ◌≡◌}
-use Rattle.dependency_book.specs.Right.{IsRightBook}
 use Rattle.desk_core.specs.Looks.{LooksOn}
 use Rattle.desk_script.specs.declared.request.Request.TheVariants as request
+use Rattle.desk_server.proofs.Jobs.{opened_right}
 
 -- what is left after a reply
 abbrev pub after_of : BookState → Reply → After
@@ -19,22 +20,22 @@ pub draws_more : (ask : Ask) (d : BookState) (p q : PostView) (later : List JobR
     → q.answers ≡ p.answers ++ later → Draws ask d p q
 draws_more ask d p q later takes gave = grind (arith)
 
-at_each_then : (a b c : BookState) (xs ys : List Answered) → AnswersAtEach a b xs → AnswersAtEach b c ys
+at_each_then : (a b c : Standing) (xs ys : List Answered) → AnswersAtEach a b xs → AnswersAtEach b c ys
     → AnswersAtEach a c (xs ++ ys)
 at_each_then a b c [] ys f g = subst (λ d. AnswersAtEach d c ys) f g
 at_each_then a b c (x ∷ xs) ys f g = (f.0, f.1, at_each_then f.0 b c xs ys f.2 g)
 
 -- the answer with this reply alone, or none where that ends the script
-pub at_one : (a b : BookState) (ask : Ask) (r : Reply) → TellsPending r b → IsLeftBy ask a b
-    → (last : BookState) × AnswersAtEach a last (but_bye ((ask, after_of b r) ∷ []))
-at_one a b ask r pending left = by (ends r) refl
+pub at_one : (a b : Standing) (ask : Ask) (r : Reply) → LeavesDesk ask r a.post b.post a.desk b.desk
+    → (last : Standing) × AnswersAtEach a last (but_bye ((ask, after_of b.desk r) ∷ []))
+at_one a b ask r left = by (ends r) refl
   where
-    by : (v : Bool) → ends r ≡ v → (last : BookState) × AnswersAtEach a last (but_bye ((ask, after_of b r) ∷ []))
-    by true e = (a, subst (λ v. AnswersAtEach a a (cond v [] ((ask, after_of b r) ∷ []) ++ [])) (sym e) refl)
+    by : (v : Bool) → ends r ≡ v → (last : Standing) × AnswersAtEach a last (but_bye ((ask, after_of b.desk r) ∷ []))
+    by true e = (a, subst (λ v. AnswersAtEach a a (cond v [] ((ask, after_of b.desk r) ∷ []) ++ [])) (sym e) refl)
     by false e = (
       b,
-      subst (λ v. AnswersAtEach a b (cond v [] ((ask, after_of b r) ∷ []) ++ [])) (sym e)
-          (b, record { reply = r; gives = refl; pending = pending; left = left }, refl),
+      subst (λ v. AnswersAtEach a b (cond v [] ((ask, after_of b.desk r) ∷ []) ++ [])) (sym e)
+          (b, record { reply = r; gives = refl; left = left }, refl),
     )
 
 module _ {V : Type 0} (notes : V → BookState → V → Type 0) where
@@ -86,36 +87,54 @@ module _ {V : Type 0} (notes : V → BookState → V → Type 0) where
   unwatched_next a later = grind (arith)
 
   pub notes_one : (a b : Moment V) (w : V) (ask : Ask) (r : Reply)
-      → WatchesReply notes ask r a.post b.post a.desk b.desk a.seen w → TellsPending r b.desk → IsLeftBy ask a.desk b.desk
+      → WatchesReply notes ask r a.post b.post a.desk b.desk a.seen w → LeavesDesk ask r a.post b.post a.desk b.desk
       → PublishedOrCounted notes a.missed b.missed w b.desk b.seen → NotesEach notes a b ((ask, after_of b.desk r) ∷ [])
-  notes_one a b w ask r before pending left noted = (
+  notes_one a b w ask r before left noted = (
     b,
-    record { reply = r; gives = refl; pending = pending; left = left; watched = w; before = before; noted = noted },
+    record { reply = r; gives = refl; left = left; watched = w; before = before; noted = noted },
     refl,
   )
 
   -- whatever was noted, the answers were given at the desks that their commands left
-  at_each : (a b : Moment V) (xs : List Answered) → NotesEach notes a b xs → AnswersAtEach a.desk b.desk xs
-  at_each a b [] same = ap (λ (m : Moment V). m.desk) same
+  abbrev there : Moment V → Standing
+  there m = standing m.post m.desk
+
+  at_each : (a b : Moment V) (xs : List Answered) → NotesEach notes a b xs → AnswersAtEach (there a) (there b) xs
+  at_each a b [] same = ap there same
   at_each a b (x ∷ xs) noted =
       let one = noted.1 in (
-        noted.0.desk,
-        record { reply = one.reply; gives = one.gives; pending = one.pending; left = one.left },
+        there noted.0,
+        record { reply = one.reply; gives = one.gives; left = one.left },
         at_each noted.0 b xs noted.2,
       )
 
-  pub at_desks : (a b : Moment V) → a.desk.plan ≡ opening 0 → IsRightBook a.desk → (xs : List Answered)
-      → NotesEach notes a b xs → AnswersAtDesks xs
-  at_desks a b opens right xs noted =
-      record { first = a.desk; opens = opens; right = right; last = b.desk; each = at_each a b xs noted }
-
-  -- and so was one more, which wasn't noted
-  pub at_desks_then : (a b : Moment V) (k : BookState) → a.desk.plan ≡ opening 0 → IsRightBook a.desk
-      → (ps qs : List Answered) → NotesEach notes a b ps → AnswersAtEach b.desk k qs → AnswersAtDesks (ps ++ qs)
-  at_desks_then a b k opens right ps qs noted then = record {
+  pub at_over : (a b : Moment V) → IsOpened a.desk → (xs : List Answered) → NotesEach notes a b xs
+      → AnswersOver a.post b.post xs
+  at_over a b opens xs noted = record {
     first = a.desk;
     opens = opens;
-    right = right;
-    last = k;
-    each = at_each_then a.desk b.desk k ps qs (at_each a b ps noted) then;
+    right = opened_right a.desk opens;
+    last = b.desk;
+    each = at_each a b xs noted;
+  }
+
+  pub at_desks : (a b : Moment V) → IsOpened a.desk → (xs : List Answered) → NotesEach notes a b xs
+      → AnswersAtDesks a.post.is_prompt xs
+  at_desks a b opens xs noted =
+      record { before = a.post; after = b.post; kind = refl; over = at_over a b opens xs noted }
+
+  -- and so was one more, which wasn't noted
+  pub at_desks_then : (a b : Moment V) (k : Standing) → IsOpened a.desk → (ps qs : List Answered)
+      → NotesEach notes a b ps → AnswersAtEach (standing b.post b.desk) k qs → AnswersAtDesks a.post.is_prompt (ps ++ qs)
+  at_desks_then a b k opens ps qs noted then = record {
+    before = a.post;
+    after = k.post;
+    kind = refl;
+    over = record {
+      first = a.desk;
+      opens = opens;
+      right = opened_right a.desk opens;
+      last = k.desk;
+      each = at_each_then (there a) (there b) k ps qs (at_each a b ps noted) then;
+    };
   }

@@ -1,7 +1,8 @@
 -- What the desk's answers are by the definition of the replies.
 use Rattle.desk_server.proofs.Names.{After, AnswersRequest, Ask, Asked, BookState, Bookmark, Bool, CanLackMemory, Cause, Changed, Command, Current, EditFault, Edited, Err, Fault, Format, GivesAnswer, GivesAnswerBy, IfNone, IfSome}
 use Rattle.desk_server.proofs.Names.{IsReadAs, IsShortOf, IsSome, KeepsTaken, KeepsText, Known, List, MayWant, Memory, NoMemory, NoShortage, NoSuch, None, Option, Pending, Plan, PollsBy, PostView, Refuse, Reply, Request, Result}
-use Rattle.desk_server.proofs.Names.{ScriptFault, Session, Shortage, Some, Still, TakesBytes, TakesText, KeptText, Unread, Unsettled, accepted, answer, answer_to_text, ap, arith, changed, cond, edited_as, ends, false, inl, inr, kept_text, length}
+use Rattle.desk_server.proofs.Names.{ScriptFault, Session, Shortage, Some, Still, TakesBytes, TakesText, KeptText, Unread, Unsettled, accepted, answer, answer_to_text, ap, arith, changed, cond, edited_as, ends, false, inl, inr}
+use Rattle.desk_server.proofs.Names.{kept_text, length}
 use Rattle.desk_server.proofs.Names.{nat_tests, no_memory, not, of_edit, of_script, only, pending_of, pending_text, polled, refusal, refused, refused_text, reply_text, session, settled, shown_id, shown_text, subst, taken, text_known, true}
 use Rattle.desk_server.proofs.Names.{unless_fault, unless_memory, unless_refused, unless_unread, ℕ, ◌==◌, ◌∙◌, ◌≡◌, ◌≢◌, ◌≤◌, ◌⊎◌}
 use Rattle.desk_server.proofs.Names.{Ok, ReplaceRule, edited, of_macrocell, of_pattern, of_rule, refl, started, sym}

@@ -1,8 +1,11 @@
 -- One command after another.
-use Rattle.desk_server.proofs.Names.{After, AllCausedOver, Answered, Answers, AnswersAll, AnswersAtDesks, AnswersFront, AnswersRequest, AnswersWhole, Appends, AppendsFront, Ask, AsksIfAny, Between, BookState, Bool, BreaksOff, Completes, Consumes, Finishes}
-use Rattle.desk_server.proofs.Names.{GivesAnswer, Hears, IfSome, IsAtEnd, IsCaused, KeepsText, List, Moment, None, NotesEach, NotesFront, NotesReplies, NotesScript, Option, PostView, Reply, Request, Served, Session, Shortage, Some}
-use Rattle.desk_server.proofs.Names.{StopsTelling, WatchesNext, WatchesReply, Works, [], afters, answer, answered, answered_by, answered_with, ap, append-nil, append_assoc, arith, asks, but_bye, cond, ends, false, first_shortage}
-use Rattle.desk_server.proofs.Names.{front_then, inr, later_shortages, moment, opening, opening_session, refl, replies_to, replies_with, reply_text, rule_text_after, session, session_after, subst, sym, texts_of, told_to, true, unless_bye}
+use Rattle.desk_server.proofs.Names.{After, AllCausedOver, Answered, Answers, AnswersAll, AnswersAllOver, AnswersAtDesks, AnswersFront, AnswersRequest, AnswersWhole, Appends, AppendsFront, Ask, AsksIfAny, Between, BookState, Bool}
+use Rattle.desk_server.proofs.Names.{BreaksOff, Completes, Consumes, Finishes}
+use Rattle.desk_server.proofs.Names.{GivesAnswer, Hears, IfSome, IsAtEnd, IsCaused, KeepsText, List, Moment, None, NotesEach, NotesFront, NotesReplies, NotesRun, NotesScript, Ok, Option, PostView, Reply, Request, Result, Served}
+use Rattle.desk_server.proofs.Names.{Session, Shortage, Some}
+use Rattle.desk_server.proofs.Names.{IsOpened, LeavesDesk, StopsTelling, WatchesNext, WatchesReply, Works, [], afters, answer, answered, answered_by, answered_with, ap, append-nil, append_assoc, arith, asks, but_bye, cond, ends, false}
+use Rattle.desk_server.proofs.Names.{first_shortage}
+use Rattle.desk_server.proofs.Names.{front_then, inr, later_shortages, moment, opening_session, refl, replies_to, replies_with, reply_text, rule_text_after, session, session_after, subst, sym, texts_of, told_to, true, unless_bye}
 use Rattle.desk_server.proofs.Names.{zip, ℕ, ◌++◌, ◌∙◌, ◌∷◌, ◌≡◌, ◌≢◌}
 use Rattle.basics.proofs.Shared.Lists.{all_append}
 use Rattle.std.proofs.lemmas.List.Concat.{flat_map-append}
@@ -14,8 +17,7 @@ use Rattle.text_lines.specs.Lines.{End, Ended, Broken, lines_until}
 use Rattle.script_lines.specs.Script.{MayFollow}
 use Rattle.desk_script.proofs.Shared.Asks.{follows-any}
 use Rattle.desk_server.specs.declared.reply.Reply.TheVariants as reply
-use Rattle.dependency_book.specs.Right.{IsRightBook}
-use Rattle.desk_server.proofs.Noted.{after_of, at_desks, unwatched_next}
+use Rattle.desk_server.proofs.Noted.{after_of, at_desks, at_over, unwatched_next}
 
 -- no failure was counted, and then none
 pub works_then : {R W : Type 0} (r s t : LineReading R) (w x y : CountedWriting W) → Works r s w x → Works s t x y
@@ -252,7 +254,7 @@ module _ (first : List Answered → Type 0) (prompt : Bool) (a b c : Ahead) (x y
   }
 
 pub answers_breaks : (noted : List Answered → Type 0) (prompt : Bool) (a b c : Ahead) (x y : Option (List ℕ)) (q : Session)
-    (m : ℕ) → ((xs : List Answered) → noted xs → AnswersAtDesks xs) → Answers noted prompt a b x y opening_session q 1 m
+    (m : ℕ) → ((xs : List Answered) → noted xs → AnswersAtDesks prompt xs) → Answers noted prompt a b x y opening_session q 1 m
     → BreaksOff b c Between m → AnswersWhole prompt a c x y
 answers_breaks noted prompt a b c x y q m at f g =
     let given : answered_by Broken (f.bytes ++ g.bytes) (f.shortages ++ []) ≡ f.given =
@@ -264,7 +266,7 @@ answers_breaks noted prompt a b c x y q m at f g =
       taken = takes_then a b c f.bytes g.bytes f.taken g.taken;
       wrote = subst (Appends x y) (sym (replies_told opening_session
           (asks Broken Between 1 (lines_until Broken (f.bytes ++ g.bytes))) (f.shortages ++ []) ∙ ap told_to given)) f.wrote;
-      desks = subst (λ v. AnswersAtDesks (but_bye v)) (sym given) (at (but_bye f.given) f.notes);
+      desks = subst (λ v. AnswersAtDesks prompt (but_bye v)) (sym given) (at (but_bye f.given) f.notes);
     }
 
 -- at the beginning
@@ -281,8 +283,8 @@ answers_none noted prompt a b x p q n notes e same = record {
   law = λ stop more later. ap (λ r. answered r (asks stop Between n (lines_until stop more)) later) (sym same);
 }
 
-pub opens : (d : BookState) (t : Option (List ℕ)) → d.plan ≡ opening 0 → t ≡ None → session d t ≡ opening_session
-opens d t plan none = grind (arith)
+pub opens : (d : BookState) (t : Option (List ℕ)) → IsOpened d → t ≡ None → session d t ≡ opening_session
+opens d t opened none = ap (session d) none ∙ ap (λ (k : BookState). session k None) opened
 
 -- so are the replies to a script
 told_script : (x z : Option (List ℕ)) (script : List ℕ) (shortages : List Shortage)
@@ -298,12 +300,11 @@ if_read P (Some script) (Some rest) bytes taken law = subst P (sym taken) (law r
 
 -- at the end its run completes, and what was noted of it is known
 pub completed : {R W V : Type 0} (notes : V → BookState → V → Type 0) (missed : ℕ) (p q : PostView)
-    (first last : BookState) (old new : V) (r s : LineReading R) (w x : CountedWriting W) → first.plan ≡ opening 0
-    → IsRightBook first
+    (first last : BookState) (old new : V) (r s : LineReading R) (w x : CountedWriting W) → IsOpened first
     → Finishes (NotesEach notes (moment 0 p first old) (moment missed q last new)) p.is_prompt r.ahead s.ahead w.contents
     x.contents opening_session 1
     → Works r s w x → Completes p.is_prompt r s w x × NotesReplies notes missed p q r w x old new
-completed notes missed p q first last old new r s w x opens right f works =
+completed notes missed p q first last old new r s w x opens f works =
     let wrote = λ (rest : List ℕ) (e : s.ahead.bytes ≡ Some rest).
     told_script w.contents x.contents (f.bytes ++ rest) f.shortages
     (subst (λ v. Appends w.contents x.contents (told_to v)) (sym (f.law rest e)) f.wrote) in (
@@ -313,8 +314,8 @@ completed notes missed p q first last old new r s w x opens right f works =
               shortages = f.shortages;
               caused = f.caused;
               wrote = wrote rest e;
-              desks = subst (λ v. AnswersAtDesks (but_bye v)) (sym (f.law rest e))
-                  (at_desks notes (moment 0 p first old) (moment missed q last new) opens right (but_bye f.given) f.notes);
+              desks = subst (λ v. AnswersAtDesks p.is_prompt (but_bye v)) (sym (f.law rest e))
+                  (at_desks notes (moment 0 p first old) (moment missed q last new) opens (but_bye f.given) f.notes);
             });
         works = works;
       },
@@ -332,7 +333,7 @@ completed notes missed p q first last old new r s w x opens right f works =
     )
 
 pub stops_front : (prompt : Bool) (a c : Ahead) (x z : Option (List ℕ))
-    → StopsTelling AnswersAtDesks prompt a c x z opening_session 1 → IfSome a.bytes (AnswersFront prompt x z)
+    → StopsTelling (AnswersAtDesks prompt) prompt a c x z opening_session 1 → IfSome a.bytes (AnswersFront prompt x z)
 stops_front prompt a c x z f = if_read (AnswersFront prompt x z) a.bytes c.bytes f.bytes f.taken.consumed
     (λ rest e.
     let so = f.law rest e in record {
@@ -348,7 +349,7 @@ stops_front prompt a c x z f = if_read (AnswersFront prompt x z) a.bytes c.bytes
 -- where it stops before the end
 front_noted : {V : Type 0} (notes : V → BookState → V → Type 0) (p q : PostView) (first : BookState) (old new : V)
     (last : Moment V) (a c : Option (List ℕ)) (bytes : List ℕ) (given : List Answered) (shortages : List Shortage)
-    → first.plan ≡ opening 0 → AllCausedOver p.is_prompt shortages → Consumes a c bytes
+    → IsOpened first → AllCausedOver p.is_prompt shortages → Consumes a c bytes
     → NotesEach notes (moment 0 p first old) last (but_bye given)
     → ((rest : List ℕ) → c ≡ Some rest
     → (later : List Answered) × (answered_with (bytes ++ rest) shortages ≡ given ++ later)
@@ -370,7 +371,7 @@ front_noted notes p q first old new last a c bytes given shortages opens caused 
     })
 
 pub begun : {V : Type 0} (notes : V → BookState → V → Type 0) (p : PostView) (first : BookState) (old : V)
-    (last : Moment V) (a c : Ahead) (x y : Option (List ℕ)) (j : Session) (m : ℕ) → first.plan ≡ opening 0
+    (last : Moment V) (a c : Ahead) (x y : Option (List ℕ)) (j : Session) (m : ℕ) → IsOpened first
     → Answers (NotesEach notes (moment 0 p first old) last) p.is_prompt a c x y opening_session j 1 m
     → IfSome a.bytes (NotesFront notes p last.post old last.seen)
 begun notes p first old last a c x y j m opens f =
@@ -382,11 +383,12 @@ begun notes p first old last a c x y j m opens f =
 -- and the next reply wasn't written, while whose answer was computed desks were looked at
 pub begun_watched : {V : Type 0} (notes : V → BookState → V → Type 0) (p q : PostView) (first k : BookState) (old new : V)
     (last : Moment V) (a b c : Ahead) (x y : Option (List ℕ)) (heard : Option Request) (is_last : Bool) (n m : ℕ)
-    (request : Request) (r : Reply) (j : Session) (t : Option (List ℕ)) → first.plan ≡ opening 0
+    (request : Request) (r : Reply) (j : Session) (t : Option (List ℕ)) → IsOpened first
     → Answers (NotesEach notes (moment 0 p first old) last) p.is_prompt a b x y opening_session j 1 n
     → (h : Hears b c Between heard is_last n m) → (s : Served p.is_prompt request r h.asked j k t)
+    → LeavesDesk s.0 r last.post q last.desk k
     → WatchesReply notes s.0 r last.post q last.desk k last.seen new → IfSome a.bytes (NotesFront notes p q old new)
-begun_watched notes p q first k old new last a b c x y heard is_last n m request r j t opens f h s watched =
+begun_watched notes p q first k old new last a b c x y heard is_last n m request r j t opens f h s left watched =
     front_noted notes p q first old new last a.bytes c.bytes (f.bytes ++ h.bytes) f.given (f.shortages ++ s.2.0 ∷ []) opens
     (λ e. all_append IsCaused f.shortages (s.2.0 ∷ []) (f.caused e) (s.2.1 e, tt))
     (takes_then a b c f.bytes h.bytes f.taken h.taken).consumed f.notes
@@ -397,12 +399,12 @@ begun_watched notes p q first k old new last a b c x y heard is_last n m request
           ∙ f.law Ended (h.bytes ++ rest) (s.2.0 ∷ [])
           ∙ ap (λ v. f.given ++ v) (afters_from p.is_prompt b c heard is_last j k t n m request r h s Ended rest []
           (follows_nothing is_last c.bytes rest h.at_end e)),
-      inr (record { reply = r; desk = k; gives = refl; watched = watched }),
+      inr (record { reply = r; desk = k; gives = refl; left = left; watched = watched }),
     ))
 
 -- where nothing was read
 pub none_begun : {V : Type 0} (notes : V → BookState → V → Type 0) (p : PostView) (first : BookState) (v : V)
-    (bytes : Option (List ℕ)) → first.plan ≡ opening 0 → IfSome bytes (NotesFront notes p p v v)
+    (bytes : Option (List ℕ)) → IsOpened first → IfSome bytes (NotesFront notes p p v v)
 none_begun notes p first v bytes opens = front_noted notes p p first v v (moment 0 p first v) bytes bytes []
     [] []
     opens (λ _. tt) (Consumes-nil bytes) refl
@@ -412,3 +414,21 @@ none_begun notes p first v bytes opens = front_noted notes p p first v v (moment
       unwatched_next notes (moment 0 p first v)
           (answered_with rest []),
     ))
+
+-- a script that was answered to its end was so over its post
+pub answered_over : {R W V E : Type 0} (notes : V → BookState → V → Type 0) (result : Result ℕ E) (missed : ℕ)
+    (p q : PostView) (r : LineReading R) (w x : CountedWriting W) (old new : V) → result ≡ Ok missed
+    → NotesRun notes result p q r w x old new → IfSome r.ahead.bytes (AnswersAllOver p q w.contents x.contents)
+answered_over notes result missed p q r w x old new is noted =
+    over r.ahead.bytes (subst (λ o. NotesRun notes o p q r w x old new) is noted)
+  where
+    over : (bytes : Option (List ℕ)) → IfSome bytes (NotesScript notes missed p q w.contents x.contents old new)
+        → IfSome bytes (AnswersAllOver p q w.contents x.contents)
+    over None h = tt
+    over (Some script) h = record {
+      shortages = h.shortages;
+      caused = h.caused;
+      wrote = h.wrote;
+      desks = at_over notes (moment 0 p h.first old) (moment missed q h.last new) h.opens
+          (but_bye (answered_with script h.shortages)) h.noted;
+    }

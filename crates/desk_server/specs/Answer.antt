@@ -127,7 +127,8 @@ shown short p id (Some b) = there short p id b
 -- no bookmark is pending any more, or so many of the document's are, with a cause if one was met
 abbrev pub polled : Shortage → Plan → After
 polled (Still n cause) p =
-    if nat_le n (length p.bookmarks) then only p (polled_text n cause) else only p (polled_text 0 None)
+    if nat_le n (length p.bookmarks) then only p (polled_text n cause)
+    else only p (polled_text 0 None)
 polled _ p = only p (polled_text 0 None)
 
 -- what the document has is listed, each bookmark as current unless its text isn't known

@@ -1,5 +1,5 @@
 -- The desk's jobs, and the post that carries them.
-use Rattle.std.specs.Prelude.{◌≡◌, ◌⊎◌, ℕ, true, List, Some}
+use Rattle.std.specs.Prelude.{◌≡◌, ◌⊎◌, ℕ, true, List, Option, Some}
 use Rattle.revision_jobs.specs.declared.entries.Entries.{Entries}
 use Rattle.revision_jobs.specs.declared.answer.Job.{Job}
 use Rattle.revision_jobs.specs.Answer.{JobResult}
@@ -7,6 +7,7 @@ use Rattle.revision_jobs.specs.Posted.{PostView}
 use Rattle.desk_events.specs.declared.need.Need.{Need}
 use Rattle.dependency_book.specs.BookState.{given_of, BookState, expected, pending_of, NothingOut}
 use Rattle.desk_core.specs.declared.cause.Cause.{Cause}
+use Rattle.desk_core.specs.Calls.{GoesByCalls}
 use Rattle.desk_core.specs.Settling.{Explains, HoldsJobsOut, Serves}
 
 -- a post of the table that took no job
@@ -42,3 +43,10 @@ abbrev pub KeepsCauses : BookState → BookState → Type 0
 KeepsCauses old new =
     (limit : ℕ) (first : BookState) (answers : List JobResult) (cause : Cause)
     → Explains limit first old answers cause → Explains limit first new answers cause
+
+-- calls that led to the one desk, and others behind them, lead to the other; the first cause that
+-- they meet is the same
+abbrev pub KeepsCalls : BookState → BookState → Type 0
+KeepsCalls old new =
+    (p q : PostView) (first : BookState) (cause : Option Cause)
+    → GoesByCalls p q first old cause → GoesByCalls p q first new cause

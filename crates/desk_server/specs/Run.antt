@@ -4,12 +4,13 @@ use Rattle.std.specs.Io.KnownBytes.{Appends}
 use Rattle.script_lines.specs.Ahead.{Ahead, TakesBytes}
 use Rattle.text_lines.specs.Lines.{End, Ended, Broken, lines_until}
 use Rattle.script_lines.specs.Faults.{AppendsFront}
+use Rattle.revision_jobs.specs.Posted.{PostView}
 use Rattle.desk_script.specs.Asks.{asks, Between}
 use Rattle.desk_server.specs.Shortage.{Shortage, AllCausedOver}
 use Rattle.desk_server.specs.Answer.{Session}
 use Rattle.desk_server.specs.Script.{Answered, answered, answered_by, answered_with}
 use Rattle.desk_server.specs.Script.{but_bye, replies_by, replies_with, told_to}
-use Rattle.desk_server.specs.Desks.{AnswersAtDesks}
+use Rattle.desk_server.specs.Desks.{AnswersAtDesks, AnswersOver}
 
 -- something was heard and answered: whatever follows, the answers are those that were given, which
 -- were written, and then those to what follows; and `noted` holds of those but `bye`
@@ -66,7 +67,7 @@ pub record AnswersWhole (prompt : Bool) (old new : Ahead) (before after : Option
   pub caused : AllCausedOver prompt shortages
   pub taken : TakesBytes old new read
   pub wrote : Appends before after (replies_by Broken read shortages)
-  pub desks : AnswersAtDesks (but_bye (answered_by Broken read shortages))
+  pub desks : AnswersAtDesks prompt (but_bye (answered_by Broken read shortages))
 
 -- the replies to the script were written, for some shortages, each at the desk that its command
 -- left
@@ -75,7 +76,15 @@ pub record AnswersAll (prompt : Bool) (before after : Option (List ℕ)) (script
   pub shortages : List Shortage
   pub caused : AllCausedOver prompt shortages
   pub wrote : Appends before after (replies_with script shortages)
-  pub desks : AnswersAtDesks (but_bye (answered_with script shortages))
+  pub desks : AnswersAtDesks prompt (but_bye (answered_with script shortages))
+
+-- so they were, over a post that was this and became that
+pub record AnswersAllOver (p q : PostView) (before after : Option (List ℕ)) (script : List ℕ)
+    : Type 0 where
+  pub shortages : List Shortage
+  pub caused : AllCausedOver p.is_prompt shortages
+  pub wrote : Appends before after (replies_with script shortages)
+  pub desks : AnswersOver p q (but_bye (answered_with script shortages))
 
 -- a beginning of the replies was written, for some shortages, each at the desk that its command
 -- left
@@ -87,4 +96,4 @@ pub record AnswersFront (prompt : Bool) (before after : Option (List ℕ)) (scri
   pub later : List Answered
   pub front : answered_with script shortages ≡ given ++ later
   pub wrote : AppendsFront before after (told_to given)
-  pub desks : AnswersAtDesks (but_bye given)
+  pub desks : AnswersAtDesks prompt (but_bye given)

@@ -70,7 +70,8 @@ session d rule = record { plan = d.plan; rule_text = rule }
 -- whatever the request asks, they are those of the answer to that
 abbrev pub AnswersRequest : Bool → Request → Reply → Session → BookState → Type 0
 AnswersRequest prompt request reply s new =
-    (ask : Ask) → IsReadAs request ask → GivesAnswerBy prompt (λ short. answer short s ask) reply new
+    (ask : Ask) → IsReadAs request ask
+    → GivesAnswerBy prompt (λ short. answer short s ask) reply new
 
 -- and the rule has the text that it has after that
 abbrev pub KeepsText : Request → Session → BookState → Option (List ℕ) → Type 0

@@ -11,7 +11,7 @@ use Rattle.dependency_book.specs.Shown.{IsPending}
 use Rattle.dependency_book.specs.ShownRows.{shown_rows}
 use Rattle.desk_core.specs.Polling.{Polls}
 use Rattle.desk_core.specs.Settling.{Explains}
-use Rattle.desk_script.specs.declared.command.Command.{Command}
+use Rattle.desk_script.specs.Asks.{Ask, Obey}
 use Rattle.desk_script.specs.declared.command.Command.TheVariants as command
 use Rattle.desk_server.specs.declared.reply.Reply.{Reply}
 use Rattle.desk_server.specs.declared.reply.Reply.TheVariants as reply
@@ -69,14 +69,14 @@ TellsPending (reply.Unsettled pending cause) d = pending ≡ pending_of d
 TellsPending (reply.Polled pending cause) d = pending ≡ pending_of d
 TellsPending _ d = ⊤
 
--- the command takes answers from the post
-abbrev pub TakesAnswers : Command → Type 0
-TakesAnswers command.Settle = ⊤
-TakesAnswers (command.Show id) = ⊤
-TakesAnswers command.Poll = ⊤
+-- what is asked may take answers from the post
+abbrev pub TakesAnswers : Ask → Type 0
+TakesAnswers (Obey command.Settle) = ⊤
+TakesAnswers (Obey (command.Show id)) = ⊤
+TakesAnswers (Obey command.Poll) = ⊤
 TakesAnswers _ = ⊥
 
--- what such a command leaves, by its reply and the answers that the post gave meanwhile: every text
+-- what that leaves, by its reply and the answers that the post gave meanwhile: every text
 -- known, or so many that aren't, then no job out, and a cause that is told is explained; where the
 -- bookmark isn't current, nothing left to compute or no job out; after a poll so many that aren't
 -- known, and a cause that is told is explained
@@ -89,7 +89,7 @@ Leaves limit answers (reply.Polled pending cause) old new =
     (pending ≡ pending_of new) × IfSome cause (Explains limit old new answers)
 Leaves limit answers _ old new = ⊤
 
--- the post gave more answers, over which the command leaves this at the post's limit
+-- the post gave more answers, over which this is left at the post's limit
 pub record LeavesOver (p q : PostView) (reply : Reply) (old new : BookState) : Type 0 where
   pub later : List JobResult
   pub gave : q.answers ≡ p.answers ++ later

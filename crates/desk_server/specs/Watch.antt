@@ -9,15 +9,14 @@ use Rattle.revision_jobs.specs.Answer.{JobResult}
 use Rattle.revision_jobs.specs.Posted.{PostView}
 use Rattle.dependency_book.specs.BookState.{BookState}
 use Rattle.dependency_book.specs.Shown.{IsPending}
-use Rattle.schedule.specs.Plan.{opening}
 use Rattle.desk_core.specs.Looks.{LooksOn}
 use Rattle.desk_script.specs.Asks.{Ask, Obey}
 use Rattle.desk_script.specs.declared.command.Command.TheVariants as command
 use Rattle.desk_server.specs.Shortage.{Shortage, AllCausedOver}
 use Rattle.desk_server.specs.Script.{Answered, answered_with, but_bye, replies_with}
-use Rattle.desk_server.specs.Told.{TellsPending, IsRefused, ends}
+use Rattle.desk_server.specs.Told.{IsRefused, ends}
 use Rattle.desk_server.specs.Served.{GivesAnswer}
-use Rattle.desk_server.specs.Desks.{IsLeftBy}
+use Rattle.desk_server.specs.Desks.{IsOpened, LeavesDesk}
 use Rattle.desk_server.specs.declared.reply.Reply.{Reply}
 
 -- a desk was noted, or passed over and counted; the count stays at 2 ^ 64 - 1
@@ -82,8 +81,7 @@ pub record NotesReply {V : Type 0} (notes : V → BookState → V → Type 0) (o
     : Type 0 where
   pub reply : Reply
   pub gives : GivesAnswer one.1 reply new.desk
-  pub pending : TellsPending reply new.desk
-  pub left : IsLeftBy one.0 old.desk new.desk
+  pub left : LeavesDesk one.0 reply old.post new.post old.desk new.desk
   pub watched : V
   pub before : WatchesReply notes one.0 reply old.post new.post old.desk new.desk old.seen watched
   pub noted : PublishedOrCounted notes old.missed new.missed watched new.desk new.seen
@@ -96,7 +94,7 @@ NotesEach {V} notes old new (one ∷ rest) =
     (next : Moment V) × NotesReply notes old one next × NotesEach notes next new rest
 
 -- the replies to the script were written, for some shortages, and the desk after each of them but
--- `bye` in turn was noted, or passed over and counted; the first has the opening document
+-- `bye` in turn was noted, or passed over and counted, from the opening one on
 pub record NotesScript {V : Type 0} (notes : V → BookState → V → Type 0) (missed : ℕ)
     (p q : PostView) (before after : Option (List ℕ)) (old new : V) (script : List ℕ)
     : Type 0 where
@@ -104,7 +102,7 @@ pub record NotesScript {V : Type 0} (notes : V → BookState → V → Type 0) (
   pub caused : AllCausedOver p.is_prompt shortages
   pub wrote : Appends before after (replies_with script shortages)
   pub first : BookState
-  pub opens : first.plan ≡ opening 0
+  pub opens : IsOpened first
   pub last : BookState
   pub noted : NotesEach notes (moment 0 p first old) (moment missed q last new)
       (but_bye (answered_with script shortages))
@@ -123,6 +121,7 @@ pub record WatchesUntold {V : Type 0} (notes : V → BookState → V → Type 0)
   pub reply : Reply
   pub desk : BookState
   pub gives : GivesAnswer one.1 reply desk
+  pub left : LeavesDesk one.0 reply old.post q old.desk desk
   pub watched : WatchesReply notes one.0 reply old.post q old.desk desk old.seen new
 
 -- the post gave nothing more and nobody looked
@@ -147,7 +146,7 @@ pub record NotesFront {V : Type 0} (notes : V → BookState → V → Type 0) (p
   pub later : List Answered
   pub front : answered_with script shortages ≡ given ++ later
   pub first : BookState
-  pub opens : first.plan ≡ opening 0
+  pub opens : IsOpened first
   pub last : Moment V
   pub noted : NotesEach notes (moment 0 p first old) last (but_bye given)
   pub unanswered : WatchesNext notes last later q new

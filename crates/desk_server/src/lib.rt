@@ -7,8 +7,8 @@
 //! squares than it may keep. What a settling leaves pending it says with its cause.
 //!
 //! `run_seen` does the same while somebody looks on at the desk: after each reply but `bye`, and
-//! before it after each answer that a settling collected. A board's publisher looks on by publishing
-//! a snapshot. A listener is told when a settling waits.
+//! before it after each answer that a settling collected. A board's publisher looks on by
+//! publishing a snapshot. A listener is told when a settling waits.
 //!
 //! What isn't known is computed by jobs over a post, which the caller opens beside the table of
 //! entries that the jobs are of.

@@ -16,9 +16,9 @@ ghost use Rattle.desk_server.specs.Served.{TakesBytes, TakesText, kept_text, ses
 ghost use Rattle.desk_server.specs.Reply.{working_text};
 ghost use Rattle.desk_server.specs.Jobs.{PostMatchesDesk, CarriesOn, DropsJobs};
 ghost use Rattle.desk_core.specs.Settling.{KeepsKnown, TellsCause};
-ghost use Rattle.desk_server.specs.Jobs.{IsDoneWith, KeepsCauses};
-ghost use Rattle.desk_server.specs.Desks.{IsLeftBy, Learned, RevisedOrSame, TakenOrSame};
-ghost use Rattle.desk_server.specs.Told.{LeavesOver, PollsBy, TakesAnswers, TellsPending, ends};
+ghost use Rattle.desk_server.specs.Jobs.{IsDoneWith, KeepsCalls, KeepsCauses};
+ghost use Rattle.desk_server.specs.Desks.{ComputedFor, LeavesDesk, RevisedOrSame, TakenOrSame};
+ghost use Rattle.desk_server.specs.Told.{PollsBy, TellsPending, ends};
 ghost use Rattle.desk_server.specs.Watch.{WatchesReply};
 
 use crate::listener::Listener;
@@ -209,6 +209,7 @@ fn give_up(desk: &mut Desk<'_>)
     ensures plan { desk.new.plan ≡ desk.old.plan }
     ensures jobs { DropsJobs desk.old desk.new }
     ensures causes { KeepsCauses desk.old desk.new }
+    ensures calls { KeepsCalls desk.old desk.new }
     ensures known { KeepsKnown desk.old desk.new }
     ensures right { IsRightBook desk.old → IsRightBook desk.new }
     ensures none { NothingOut desk.new }
@@ -222,7 +223,7 @@ fn give_up(desk: &mut Desk<'_>)
 
 // Computes what isn't known, and gives the cause where one left bookmarks pending. Whatever is out
 // then is given up, so that it is computed anew another time.
-#[tactic(auto, using(crate::proofs::Jobs::carries_served, crate::proofs::Jobs::carries_on, crate::proofs::Jobs::causes_kept, crate::proofs::Jobs::why_explained, crate::proofs::Jobs::why_stopped, crate::proofs::Jobs::none_untold, crate::proofs::Jobs::learned_then))]
+#[tactic(auto, using(crate::proofs::Jobs::carries_served, crate::proofs::Jobs::carries_on, crate::proofs::Jobs::causes_kept, crate::proofs::Jobs::why_explained, crate::proofs::Jobs::why_stopped, crate::proofs::Jobs::none_untold))]
 fn compute<P: Post, O: Onlooker>(
     rt: &impl Wait,
     desk: &mut Desk<'_>,
@@ -234,7 +235,7 @@ fn compute<P: Post, O: Onlooker>(
     ensures caused { (P.view post.old).is_prompt ≡ true → IfNone result (pending_of desk.new ≡ 0) }
     ensures explained { TellsCause (P.view post.old) (P.view post.new) desk.old desk.new result }
     ensures given_up { IsDoneWith desk.new }
-    ensures left { Learned desk.old desk.new }
+    ensures left { ComputedFor result (P.view post.old) (P.view post.new) desk.old desk.new }
     ensures post { CarriesOn (P.view post.old) (P.view post.new) desk.new }
     ensures looked { LooksOn O.sees (P.view post.old) (P.view post.new) desk.old
         onlooker.old onlooker.new }
@@ -257,12 +258,11 @@ fn settle<P: Post, O: Onlooker>(
     listener: &mut impl Listener,
 ) -> Reply
     requires { PostMatchesDesk (P.view post.old) desk.old }
-    ensures answer { GivesAnswerBy (P.view post.old).is_prompt (λ short. settled short desk.old.plan)
-        result desk.new }
-    ensures leaves { LeavesOver (P.view post.old) (P.view post.new) result desk.old desk.new }
-    ensures left { Learned desk.old desk.new }
+    ensures answer { GivesAnswerBy (P.view post.old).is_prompt
+        (λ short. settled short desk.old.plan) result desk.new }
+    ensures left { LeavesDesk (Obey Command.Settle) result (P.view post.old) (P.view post.new)
+        desk.old desk.new }
     ensures post { CarriesOn (P.view post.old) (P.view post.new) desk.new }
-    ensures pending { TellsPending result desk.new }
     ensures looked { WatchesReply O.sees (Obey Command.Settle) result (P.view post.old)
         (P.view post.new) desk.old desk.new onlooker.old onlooker.new }
 {
@@ -281,9 +281,9 @@ fn work<P: Post>(rt: &impl Wait, desk: &mut Desk<'_>, post: &mut P) -> Reply
     ensures answer { GivesAnswerBy (P.view post.old).is_prompt
         (λ short. only desk.old.plan working_text) result desk.new }
     ensures silent { (P.view post.new).answers ≡ (P.view post.old).answers }
-    ensures left { Learned desk.old desk.new }
+    ensures left { LeavesDesk (Obey Command.Work) result (P.view post.old) (P.view post.new)
+        desk.old desk.new }
     ensures post { CarriesOn (P.view post.old) (P.view post.new) desk.new }
-    ensures pending { TellsPending result desk.new }
     ensures goes_on { ends result ≡ false }
 {
     desk_core::feed(rt, desk, post);
@@ -304,10 +304,9 @@ fn show<P: Post, O: Onlooker>(
     ensures answer { GivesAnswerBy (P.view post.old).is_prompt
         (λ short. shown_id short desk.old.plan id) result desk.new }
     ensures at_once { ¬ IsPending desk.old id → (desk.new ≡ desk.old) × (post.new ≡ post.old) }
-    ensures left { IsLeftBy (Obey (Command.Show id)) desk.old desk.new }
-    ensures leaves { LeavesOver (P.view post.old) (P.view post.new) result desk.old desk.new }
+    ensures left { LeavesDesk (Obey (Command.Show id)) result (P.view post.old) (P.view post.new)
+        desk.old desk.new }
     ensures post { CarriesOn (P.view post.old) (P.view post.new) desk.new }
-    ensures is { result ≡ Reply.Shown id }
     ensures looked { WatchesReply O.sees (Obey (Command.Show id)) result (P.view post.old)
         (P.view post.new) desk.old desk.new onlooker.old onlooker.new }
 {
@@ -329,11 +328,10 @@ fn poll<P: Post>(rt: &impl Wait, desk: &mut Desk<'_>, post: &mut P) -> Reply
     requires { PostMatchesDesk (P.view post.old) desk.old }
     ensures answer { GivesAnswerBy (P.view post.old).is_prompt (λ short. polled short desk.old.plan)
         result desk.new }
-    ensures leaves { LeavesOver (P.view post.old) (P.view post.new) result desk.old desk.new }
     ensures polls { PollsBy (P.view post.old) (P.view post.new) desk.old desk.new result }
-    ensures left { Learned desk.old desk.new }
+    ensures left { LeavesDesk (Obey Command.Poll) result (P.view post.old) (P.view post.new)
+        desk.old desk.new }
     ensures post { CarriesOn (P.view post.old) (P.view post.new) desk.new }
-    ensures pending { TellsPending result desk.new }
 {
     let Polled { pending, cause } = desk_core::poll(rt, desk, post);
     // No document has more bookmarks than its own.
@@ -344,7 +342,7 @@ fn poll<P: Post>(rt: &impl Wait, desk: &mut Desk<'_>, post: &mut P) -> Reply
 // Shows a bookmark as it is known now.
 fn peek(desk: &Desk<'_>, id: u64) -> Reply
     ensures answer { GivesAnswerBy true (λ short. shown_id short desk.now.plan id) result desk.now }
-    ensures pending { TellsPending result desk.now }
+    ensures is { result ≡ Reply.Shown id }
 {
     // What the desk shows is what starting over gives.
     let _shown = desk.shown(id);
@@ -354,7 +352,7 @@ fn peek(desk: &Desk<'_>, id: u64) -> Reply
 // Lists what the document has.
 fn list(desk: &Desk<'_>) -> Reply
     ensures answer { GivesAnswerBy true (λ short. listed short desk.now.plan) result desk.now }
-    ensures pending { TellsPending result desk.now }
+    ensures is { result ≡ Reply.Listed }
 {
     let _plan = desk.document();
     Reply::Listed
@@ -386,11 +384,9 @@ fn obey<P: Post, O: Onlooker>(
     requires { PostMatchesDesk (P.view post.old) desk.old }
     ensures answer { GivesAnswerBy (P.view post.old).is_prompt
         (λ short. obeyed short (session desk.old rule.now) command) result desk.new }
-    ensures leaves { TakesAnswers command
-        → LeavesOver (P.view post.old) (P.view post.new) result desk.old desk.new }
-    ensures left { IsLeftBy (Obey command) desk.old desk.new }
+    ensures left { LeavesDesk (Obey command) result (P.view post.old) (P.view post.new)
+        desk.old desk.new }
     ensures post { CarriesOn (P.view post.old) (P.view post.new) desk.new }
-    ensures pending { TellsPending result desk.new }
     ensures looked { WatchesReply O.sees (Obey command) result (P.view post.old)
         (P.view post.new) desk.old desk.new onlooker.old onlooker.new }
 {
@@ -425,12 +421,9 @@ pub(crate) fn serve<P: Post, O: Onlooker>(
     ensures answer { AnswersRequest (P.view post.old).is_prompt request result
         (session desk.old rule.old) desk.new }
     ensures kept { KeepsText request (session desk.old rule.old) desk.new rule.new }
-    ensures leaves { (command : Command) → request ≡ Request.Obey command
-        → TakesAnswers command
-        → LeavesOver (P.view post.old) (P.view post.new) result desk.old desk.new }
-    ensures left { (ask : Ask) → IsReadAs request ask → IsLeftBy ask desk.old desk.new }
+    ensures left { (ask : Ask) → IsReadAs request ask → LeavesDesk ask result (P.view post.old)
+        (P.view post.new) desk.old desk.new }
     ensures post { CarriesOn (P.view post.old) (P.view post.new) desk.new }
-    ensures pending { TellsPending result desk.new }
     ensures looked { (ask : Ask) → IsReadAs request ask → WatchesReply O.sees ask result
         (P.view post.old) (P.view post.new) desk.old desk.new onlooker.old onlooker.new }
 {

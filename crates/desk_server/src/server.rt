@@ -1,9 +1,8 @@
 //! A script, answered while it is read.
 ghost use Rattle.std.specs.Prelude.{◌≡◌, Err, OnOk};
-ghost use Rattle.schedule.specs.Plan.{opening};
-ghost use Rattle.dependency_book.specs.Right.{IsRightBook};
+ghost use Rattle.desk_server.specs.Desks.{IsOpened};
 ghost use Rattle.desk_server.specs.Jobs.{PostMatchesDesk, IsFresh};
-ghost use Rattle.desk_server.specs.Ending.{Completes, ReadStops, WriteStops};
+ghost use Rattle.desk_server.specs.Ending.{Completes, CompletesOver, ReadStops, WriteStops};
 ghost use Rattle.desk_server.specs.Watch.{NotesRun};
 
 use crate::listener::{Listener, Silent};
@@ -49,8 +48,7 @@ fn answer_commands<R: Read, W: Write, L: Ledger, M: Ledger, P: Post, O: Onlooker
     onlooker: &mut O,
     listener: &mut impl Listener,
 ) -> Result<u64, Device>
-    requires opening { desk.old.plan ≡ opening 0 }
-    requires right { IsRightBook desk.old }
+    requires opened { IsOpened desk.old }
     requires carries { PostMatchesDesk (P.view post.old) desk.old }
     ensures done { OnOk result
         (Completes (P.view post.old).is_prompt reader.old reader.new writer.old writer.new) }
@@ -97,7 +95,8 @@ fn answer_commands<R: Read, W: Write, L: Ledger, M: Ledger, P: Post, O: Onlooker
 /// What isn't known is computed by jobs of the table of entries over the post, and so many results
 /// of steps may be kept beside what the document needs. It may wait where the post does. Over a
 /// prompt post a settling that leaves bookmarks pending tells a cause. Over any other it may tell
-/// none, where the post is closed, has ended or was asked a million times.
+/// none, where the post is closed, has ended or was asked a million times. A cause that a settling
+/// or a poll tells is the first that its calls on the desk met.
 pub fn run<R: Read, W: Write, L: Ledger, M: Ledger, P: Post>(
     rt: &impl Wait,
     alloc: Global,
@@ -114,6 +113,10 @@ pub fn run<R: Read, W: Write, L: Ledger, M: Ledger, P: Post>(
     // was written was handed on.
     ensures done { OnOk result
         (Completes (P.view post.old).is_prompt reader.old reader.new writer.old writer.new) }
+
+    // So it was over this post: what it gave was collected by the commands, in order.
+    ensures over { CompletesOver result (P.view post.old) (P.view post.new)
+        reader.old writer.old writer.new }
 
     // Where a read failed, or 2^64 - 1 bytes came, all that was read was taken, and the commands
     // that were read whole were answered.
@@ -146,8 +149,8 @@ pub fn run<R: Read, W: Write, L: Ledger, M: Ledger, P: Post>(
 
 /// Does as `run` does, while somebody looks on at the desk: after each reply but `bye`, and Ok says
 /// how many of these looks saw nothing; and where a settling or a show computes, as that begins and
-/// after each answer that is collected. The listener is told when that begins and ends. It may wait where
-/// the onlooker does.
+/// after each answer that is collected. The listener is told when that begins and ends. It may wait
+/// where the onlooker does.
 ///
 /// With a board's publisher as the onlooker each look publishes a snapshot.
 pub fn run_seen<R: Read, W: Write, L: Ledger, M: Ledger, P: Post, O: Onlooker>(

@@ -1,4 +1,6 @@
 pub mod Plain
+pub mod Current
+pub mod Example
 pub mod RuleStates
 pub mod OneLine
 pub mod Written

@@ -1,3 +1,5 @@
 pub mod Plain
 pub mod OneLine
 pub mod Anew
+pub mod Current
+pub mod Example

@@ -1,8 +1,12 @@
 //! Laws of the definitions, each the contract of a function that does nothing.
 ghost use Rattle.reply_laws.specs.Anew.{KeptTextsAreRules, ScriptsMakeAnew};
 ghost use Rattle.reply_laws.specs.Anew.{WhateverIsScriptedIsMadeAnew};
+ghost use Rattle.reply_laws.specs.Current.{CurrentIsScratch};
+ghost use Rattle.reply_laws.specs.Example.{FirstAnswersAreGiven};
 ghost use Rattle.reply_laws.specs.OneLine.{DocumentsAreSound, OneLineWithoutBranch};
 ghost use Rattle.reply_laws.specs.Plain.{PlainWithoutShortages};
+
+use desk_core::{calls_are_of_law, calls_show_only_scratch};
 
 /// Where no reply shows a want, the replies are those where none is met.
 #[tactic(auto, using(crate::proofs::Plain::afters_plain))]
@@ -42,4 +46,21 @@ pub fn kept_texts_are_rules()
 #[tactic(auto, using(crate::proofs::EachSession::scripted_anew))]
 pub fn whatever_is_scripted_is_made_anew()
     ensures { WhateverIsScriptedIsMadeAnew }
+{}
+
+/// Over a whole script, from its opening on, calls of which `calls_show_only_scratch` speaks lead
+/// from each desk at which something is answered to the next. So each text that a reply writes as
+/// current, or lists so, is what starting over gives for the document at that moment, by that law.
+pub fn current_is_scratch()
+    ensures { CurrentIsScratch }
+{
+    calls_are_of_law();
+    calls_show_only_scratch();
+}
+
+/// Worked answers at a desk of the opening document, to which that law applies, as it does to those
+/// that each `run` gives.
+#[tactic(auto, using(crate::proofs::Example::first_given))]
+pub fn first_answers_are_given()
+    ensures { FirstAnswersAreGiven }
 {}

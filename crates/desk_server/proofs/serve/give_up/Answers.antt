@@ -1,5 +1,6 @@
 use Rattle.desk_server.proofs.Names.{IsFirstOut, arith, rules, subst, sym, ◌<◌, ◌^◌, ◌∙◌}
 use Rattle.desk_core.proofs.Shared.Causes.{explains-cancelled}
+use Rattle.desk_server.proofs.Calls.{keeps_calls}
 use Rattle.desk_server.proofs.Jobs.{drops_none, drops_drops, cancel_drops, first_falls, known_stays, numbers_from}
 use Rattle.desk_server.proofs.serve.give_up.Goals as goal
 
@@ -21,6 +22,10 @@ loop-first-preserved c = record {
       (cancel_drops _ _ _ c.cancel.ensures.rows c.cancel.ensures.book);
   causes = λ limit first answers cause h. explains-cancelled limit first c.loop-first.desk c.cancel.new.self
       c.cancel.ensures.book answers cause (c.loop-first.invariant.causes limit first answers cause h);
+  calls = λ p q first cause h.
+      keeps_calls c.in-Some.number c.loop-first.desk c.cancel.new.self
+      (record { rows = c.cancel.ensures.rows; book = c.cancel.ensures.book; event = c.cancel.ensures.event })
+      p q first cause (c.loop-first.invariant.calls p q first cause h);
   known = λ need value is.
       known_stays c.in-Some.number value _ _ (c.cancel.ensures.rows need) (c.loop-first.invariant.known need value is);
   right = λ _. c.cancel.ensures.right;

@@ -1,5 +1,6 @@
-use Rattle.desk_server.proofs.Names.{Changed, NoShortage, Shortage, TellsPending, arith, asked_of, edited, id_word, refl, rules, scripted, session, shown_id, subst, sym, true, unless_unread}
+use Rattle.desk_server.proofs.Names.{Changed, NoShortage, Shortage, TellsPending, asked_of, edited, id_word, inl, refl, rules, scripted, session, shown_id, subst, sym, true, unless_unread}
 use Rattle.desk_server.proofs.Jobs.{carries_on}
+use Rattle.desk_server.proofs.Left.{left_idle}
 use Rattle.desk_server.proofs.Noted.{draws_more, unwatched}
 use Rattle.desk_server.proofs.Replies.{may-be-unread, over-any, polled_goes_on, read-edited, read-shown}
 use Rattle.desk_server.proofs.serve.obey.Goals as goal
@@ -46,8 +47,41 @@ returns-in-Script-clause-answer g c =
     (may-be-unread true p (λ (short : Shortage). scripted short s) c.script.result c.args.desk.now refl
     c.script.ensures.answer))
 
-pub returns-in-Show-clause-pending : goal.returns-in-Show-clause-pending
-returns-in-Show-clause-pending g c = subst (λ r. TellsPending r c.show.new.desk) (sym c.show.ensures.is) tt
+pub returns-in-Edit-clause-left : goal.returns-in-Edit-clause-left
+returns-in-Edit-clause-left g c =
+    rw c.in-Edit.is (left_idle _ _ _ _ _ c.edit.ensures.left c.edit.ensures.pending (λ takes. takes))
+
+pub returns-in-Settle-clause-left : goal.returns-in-Settle-clause-left
+returns-in-Settle-clause-left g c = rw c.in-Settle.is c.settle.ensures.left
+
+pub returns-in-Work-clause-left : goal.returns-in-Work-clause-left
+returns-in-Work-clause-left g c = rw c.in-Work.is c.work.ensures.left
+
+pub returns-in-Show-clause-left : goal.returns-in-Show-clause-left
+returns-in-Show-clause-left g c = rw c.in-Show.is c.show.ensures.left
+
+pub returns-in-Peek-clause-left : goal.returns-in-Peek-clause-left
+returns-in-Peek-clause-left g c =
+    let pending = subst (λ r. TellsPending r c.args.desk.now) (sym c.peek.ensures.is) tt in
+    rw c.in-Peek.is (left_idle _ _ _ _ _ (inl c.peek.ensures.is, refl) pending (λ takes. takes))
+
+pub returns-in-Poll-clause-left : goal.returns-in-Poll-clause-left
+returns-in-Poll-clause-left g c = rw c.in-Poll.is c.poll.ensures.left
+
+pub returns-in-List-clause-left : goal.returns-in-List-clause-left
+returns-in-List-clause-left g c =
+    let pending = subst (λ r. TellsPending r c.args.desk.now) (sym c.list.ensures.is) tt in
+    rw c.in-List.is (left_idle _ _ _ _ _ (c.list.ensures.is, refl) pending (λ takes. takes))
+
+pub returns-in-Script-clause-left : goal.returns-in-Script-clause-left
+returns-in-Script-clause-left g c =
+    rw c.in-Script.is (left_idle _ _ _ _ _ refl c.script.ensures.pending (λ takes. takes))
+
+pub returns-in-Help-clause-left : goal.returns-in-Help-clause-left
+returns-in-Help-clause-left g c = rw c.in-Help.is (left_idle _ _ _ _ _ refl tt (λ takes. takes))
+
+pub returns-in-Quit-clause-left : goal.returns-in-Quit-clause-left
+returns-in-Quit-clause-left g c = rw c.in-Quit.is (left_idle _ _ _ _ _ refl tt (λ takes. takes))
 
 pub returns-in-Settle-clause-looked : goal.returns-in-Settle-clause-looked
 returns-in-Settle-clause-looked g c = rw c.in-Settle.is c.settle.ensures.looked
@@ -56,4 +90,8 @@ pub returns-in-Show-clause-looked : goal.returns-in-Show-clause-looked
 returns-in-Show-clause-looked g c = rw c.in-Show.is c.show.ensures.looked
 
 pub returns-in-Poll-clause-looked : goal.returns-in-Poll-clause-looked
-returns-in-Poll-clause-looked g c = grind (arith, draws_more, polled_goes_on, unwatched)
+returns-in-Poll-clause-looked g c =
+    let jobs = c.poll.ensures.left.jobs tt in
+    let goes_on = polled_goes_on _ _ _ _ c.poll.result c.poll.ensures.polls in
+    rw c.in-Poll.is (unwatched g.O.Onlooker.sees _ _ _ _ _ _ _ (draws_more _ _ _ _ jobs.later tt jobs.gave)
+    (λ has. absurd has) (λ bye. absurd (cc (bye, goes_on))))

@@ -1,4 +1,5 @@
 use Rattle.desk_server.proofs.Names.{NoShortage, rules, ◌≢◌}
+use Rattle.desk_server.proofs.Left.{left_settled, left_unsettled}
 use Rattle.desk_server.proofs.Replies.{gives-unsettled}
 use Rattle.desk_server.proofs.serve.settle.Goals as goal
 
@@ -11,3 +12,13 @@ returns-in_default-clause-answer g c =
     gives-unsettled _ c.args.desk.now.plan c.compute-cause.new.desk c.pending.result
     c.compute-cause.result c.compute-cause.ensures.plan c.compute-cause.ensures.caused c.pending.ensures.count some
     c.pending.ensures.bound
+
+pub returns-in-0-clause-left : goal.returns-in-0-clause-left
+returns-in-0-clause-left g c =
+    left_settled _ _ _ _ _ c.compute-cause.ensures.left c.compute-cause.ensures.explained (search rules)
+
+pub returns-in_default-clause-left : goal.returns-in_default-clause-left
+returns-in_default-clause-left g c =
+    let some : c.pending.result ≢ 0 = search rules in
+    left_unsettled _ _ _ _ _ _ c.compute-cause.ensures.left c.compute-cause.ensures.explained
+    c.compute-cause.ensures.given_up c.pending.ensures.count some

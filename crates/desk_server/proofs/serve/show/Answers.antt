@@ -1,5 +1,6 @@
-use Rattle.std.proofs.Common.{◌≢◌, [], refl, sym, append-nil, rules}
+use Rattle.std.proofs.Common.{◌≢◌, refl, rules}
 use Rattle.dependency_book.specs.declared.shown.Shown.TheVariants.{Pending}
+use Rattle.desk_server.proofs.Left.{left_at_once, left_shown}
 use Rattle.desk_server.proofs.Replies.{gives-shown, not_pending}
 use Rattle.desk_server.proofs.serve.show.Goals as goal
 
@@ -12,12 +13,13 @@ pub returns-then-ne-clause-answer : goal.returns-then-ne-clause-answer
 returns-then-ne-clause-answer g c =
     gives-shown _ c.args.desk.now.plan c.args.desk.now c.args.id c.shown.result refl c.shown.ensures
 
-pub returns-then-ne-clause-leaves : goal.returns-then-ne-clause-leaves
-returns-then-ne-clause-leaves g c =
+pub returns-then-ne-clause-left : goal.returns-then-ne-clause-left
+returns-then-ne-clause-left g c =
     let other : c.shown.result ≢ Pending = search rules in
-    record {
-      later = [];
-      gave = sym (append-nil _);
-      leaves = λ pending.
-          absurd (not_pending c.args.desk.now c.args.id c.shown.result c.shown.ensures other pending);
-    }
+    left_at_once _ c.args.desk.now c.args.id
+    (not_pending c.args.desk.now c.args.id c.shown.result c.shown.ensures other)
+
+pub returns-clause-left : goal.returns-clause-left
+returns-clause-left g c =
+    left_shown _ _ _ _ c.args.id _ (search rules) c.compute.ensures.left c.compute.ensures.explained
+    c.compute.ensures.given_up

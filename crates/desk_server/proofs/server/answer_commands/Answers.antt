@@ -1,4 +1,4 @@
-use Rattle.desk_server.proofs.Names.{AnswersAtDesks, AnswersAtEach, Works, ap, ends, moment, opening_session, refl, rules, session, subst, sym, wrote_is_err, wrote_is_ok, ◌+◌, ◌∙◌, ◌≡◌, ◌≢◌}
+use Rattle.desk_server.proofs.Names.{AnswersAtDesks, AnswersAtEach, Works, ap, ends, moment, opening_session, refl, rules, session, standing, subst, sym, wrote_is_err, wrote_is_ok, ◌+◌, ◌∙◌, ◌≡◌, ◌≢◌}
 use Rattle.script_lines.specs.Input.{FailsOrFull}
 use Rattle.desk_server.specs.declared.reply.Reply.TheVariants as reply
 use Rattle.desk_server.proofs.Jobs.{carries_further}
@@ -12,7 +12,7 @@ script-init g c = rw c.begin.ensures (record {
   answered = answers_none _ (g.P.Post.view c.args.post.now).is_prompt _ _ _ opening_session
       (session c.args.desk.now c.none-rule.result) 1
       (notes_none g.O.Onlooker.sees (moment 0 (g.P.Post.view c.args.post.now) c.args.desk.now c.args.onlooker.now)) refl
-      (opens c.args.desk.now c.none-rule.result c.requires.opening c.none-rule.ensures);
+      (opens c.args.desk.now c.none-rule.result c.requires.opened c.none-rule.ensures);
   post = record { limit = refl; kind = refl; carries = c.requires.carries };
   works = record { reads = refl; writes = refl; flushed = λ h. h };
 })
@@ -21,7 +21,7 @@ pub returns-in_default-clause-noted : goal.returns-in_default-clause-noted
 returns-in_default-clause-noted g c =
     begun g.O.Onlooker.sees (g.P.Post.view c.args.post.now) c.args.desk.now c.args.onlooker.now
     (moment c.script.missed (g.P.Post.view c.script.post) c.script.desk c.script.onlooker) _ _ _ _
-    (session c.script.desk c.script.rule) _ c.requires.opening c.script.invariant.answered
+    (session c.script.desk c.script.rule) _ c.requires.opened c.script.invariant.answered
 
 pub returns-then-is_err-clause-noted : goal.returns-then-is_err-clause-noted
 returns-then-is_err-clause-noted g c =
@@ -34,8 +34,8 @@ returns-then-is_err-clause-noted g c =
     begun_watched g.O.Onlooker.sees (g.P.Post.view c.args.post.now) (g.P.Post.view c.serve-reply.new.post) c.args.desk.now
     c.serve-reply.new.desk c.args.onlooker.now c.serve-reply.new.onlooker
     (moment c.script.missed (g.P.Post.view c.script.post) c.script.desk c.script.onlooker) _ _ _ _ _ _ _ _ _
-    c.in-Some.request c.serve-reply.result (session c.script.desk c.script.rule) c.serve-reply.new.rule c.requires.opening
-    h.answered heard s (c.serve-reply.ensures.looked s.0 s.3)
+    c.in-Some.request c.serve-reply.result (session c.script.desk c.script.rule) c.serve-reply.new.rule c.requires.opened
+    h.answered heard s (c.serve-reply.ensures.left s.0 s.3) (c.serve-reply.ensures.looked s.0 s.3)
 
 pub returns-in_default-clause-read : goal.returns-in_default-clause-read
 returns-in_default-clause-read g c = λ _.
@@ -44,7 +44,7 @@ returns-in_default-clause-read g c = λ _.
       answered = answers_breaks _ _ _ _ _ _ _ _ _
           (at_desks g.O.Onlooker.sees (moment 0 (g.P.Post.view c.args.post.now) c.args.desk.now c.args.onlooker.now)
           (moment c.script.missed (g.P.Post.view c.script.post) c.script.desk c.script.onlooker)
-          c.requires.opening c.requires.right) h.answered c.in_default.ensures.err;
+          c.requires.opened) h.answered c.in_default.ensures.err;
       flushed = h.works.flushed;
       fails = (
         subst
@@ -65,7 +65,7 @@ returns-then-last g c =
     (notes_none g.O.Onlooker.sees (moment c.script.missed
     (g.P.Post.view c.script.post) c.script.desk c.script.onlooker))
     c.in_default-request.is heard c.if-last.true) in
-    let all = completed g.O.Onlooker.sees _ _ _ _ _ _ _ _ _ _ _ c.requires.opening c.requires.right finishes
+    let all = completed g.O.Onlooker.sees _ _ _ _ _ _ _ _ _ _ _ c.requires.opened finishes
     (works_then _ _ _ _ _ _ h.works works) in
     record { done = all.0; noted = all.1; read = search rules; write = search rules }
 
@@ -93,17 +93,18 @@ returns-then-is_err-clause-write g c = λ _.
     let s = served prompt c.in-Ok.heard.request c.in-Some.request heard.asked
     (session c.script.desk c.script.rule) c.serve-reply.new.desk c.serve-reply.new.rule c.serve-reply.result c.in-Some.is heard.is
     (rw h.post.kind at c.serve-reply.ensures.answer) c.serve-reply.ensures.kept in
-    let one = at_one c.script.desk c.serve-reply.new.desk s.0 c.serve-reply.result c.serve-reply.ensures.pending
-    (c.serve-reply.ensures.left s.0 s.3) in
+    let at = standing (g.P.Post.view c.script.post) c.script.desk in
+    let next = standing (g.P.Post.view c.serve-reply.new.post) c.serve-reply.new.desk in
+    let one = at_one at next s.0 c.serve-reply.result (c.serve-reply.ensures.left s.0 s.3) in
     record {
       answered = stops_front _ _ _ _ _ (answers_stops _ _ _ _ _ _ _ _ _ _ _ _ h.answered
-          (AnswersAtEach c.script.desk one.0) AnswersAtDesks
+          (AnswersAtEach at one.0) (AnswersAtDesks prompt)
           (at_desks_then g.O.Onlooker.sees (moment 0 (g.P.Post.view c.args.post.now) c.args.desk.now c.args.onlooker.now)
           (moment c.script.missed (g.P.Post.view c.script.post) c.script.desk c.script.onlooker) one.0
-          c.requires.opening c.requires.right)
+          c.requires.opened)
           (stops_telling prompt _ _ _ _ (session c.script.desk c.script.rule) c.serve-reply.new.desk
           c.serve-reply.new.rule _ _ c.in-Some.request c.serve-reply.result heard s
-          (AnswersAtEach c.script.desk one.0) _ _ one.1 (wrote_is_err _ _ c.send.result _ (sym c.is_err.ensures.value
+          (AnswersAtEach at one.0) _ _ one.1 (wrote_is_err _ _ c.send.result _ (sym c.is_err.ensures.value
           ∙ c.if-is_err.true) c.send.ensures.bytes)));
       fails = fails ∙ ap (λ n. n + 1) h.works.writes;
     }
@@ -126,7 +127,7 @@ returns-then-is_bye g c =
     (notes_same g.O.Onlooker.sees c.script.missed (g.P.Post.view c.script.post) (g.P.Post.view c.serve-reply.new.post)
     c.script.desk c.script.onlooker c.serve-reply.new.onlooker still.0 still.1) bye
     (wrote_is_ok _ _ c.send.result _ (sym c.is_err.ensures.value ∙ c.if-is_err.false) c.send.ensures.bytes)) in
-    let all = completed g.O.Onlooker.sees _ _ _ _ _ _ _ _ _ _ _ c.requires.opening c.requires.right finishes
+    let all = completed g.O.Onlooker.sees _ _ _ _ _ _ _ _ _ _ _ c.requires.opened finishes
     (works_then _ _ _ _ _ _ h.works works) in
     record { done = all.0; noted = all.1; read = search rules; write = search rules }
 
@@ -148,9 +149,9 @@ returns-then-last-2 g c =
     (moment c.script.missed (g.P.Post.view c.script.post) c.script.desk c.script.onlooker)
     (moment c.note.new.missed (g.P.Post.view c.serve-reply.new.post) c.serve-reply.new.desk c.note.new.onlooker)
     c.serve-reply.new.onlooker s.0 c.serve-reply.result (c.serve-reply.ensures.looked s.0 s.3)
-    c.serve-reply.ensures.pending (c.serve-reply.ensures.left s.0 s.3) c.note.ensures)
+    (c.serve-reply.ensures.left s.0 s.3) c.note.ensures)
     (wrote_is_ok _ _ c.send.result _ (sym c.is_err.ensures.value ∙ c.if-is_err.false) c.send.ensures.bytes)) in
-    let all = completed g.O.Onlooker.sees _ _ _ _ _ _ _ _ _ _ _ c.requires.opening c.requires.right finishes
+    let all = completed g.O.Onlooker.sees _ _ _ _ _ _ _ _ _ _ _ c.requires.opened finishes
     (works_then _ _ _ _ _ _ h.works works) in
     record { done = all.0; noted = all.1; read = search rules; write = search rules }
 
@@ -173,7 +174,7 @@ script-preserved g c =
           (moment c.script.missed (g.P.Post.view c.script.post) c.script.desk c.script.onlooker)
           (moment c.note.new.missed (g.P.Post.view c.serve-reply.new.post) c.serve-reply.new.desk c.note.new.onlooker)
           c.serve-reply.new.onlooker s.0 c.serve-reply.result (c.serve-reply.ensures.looked s.0 s.3)
-          c.serve-reply.ensures.pending (c.serve-reply.ensures.left s.0 s.3) c.note.ensures)
+          (c.serve-reply.ensures.left s.0 s.3) c.note.ensures)
           (wrote_is_ok _ _ c.send.result _ (sym c.is_err.ensures.value ∙ c.if-is_err.false) c.send.ensures.bytes));
       post = carries_further _ _ _ _ h.post.limit h.post.kind c.serve-reply.ensures.post;
       works = works_then _ _ _ _ _ _ h.works works;

@@ -1,10 +1,11 @@
-use Rattle.desk_server.proofs.Names.{BookState, ap, opened, refl}
-use Rattle.desk_server.proofs.Jobs.{carries_first}
+use Rattle.desk_server.proofs.Names.{opened, refl}
+use Rattle.desk_server.proofs.Jobs.{carries_first, is_opened}
 use Rattle.desk_server.proofs.Rounds.{none_begun}
 use Rattle.desk_server.proofs.server.run_seen.Goals as goal
 
-pub answer_commands-answered-requires-clause-opening : goal.answer_commands-answered-requires-clause-opening
-answer_commands-answered-requires-clause-opening g c = ap (λ (k : BookState). k.plan) c.in-Ok.ensures.opened
+pub answer_commands-answered-requires-clause-opened : goal.answer_commands-answered-requires-clause-opened
+answer_commands-answered-requires-clause-opened g c =
+    is_opened c.in-Ok.desk c.args.entries.now c.in-Ok.ensures.opened
 
 pub answer_commands-answered-requires-clause-carries : goal.answer_commands-answered-requires-clause-carries
 answer_commands-answered-requires-clause-carries g c =
