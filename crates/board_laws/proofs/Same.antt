@@ -4,7 +4,6 @@ use Rattle.std.proofs.Math.Path.{fun_ext}
 use Rattle.std.proofs.lemmas.Bool.Decides.{nat_tests}
 use Rattle.bookmarks.specs.Value.{pattern, text}
 use Rattle.schedule.specs.declared.document.Bookmark.{Bookmark}
-use Rattle.schedule.specs.declared.edit.Edit.{Edit}
 use Rattle.schedule.specs.Asked.{Asked, asked_of}
 use Rattle.schedule.specs.Plan.{Plan}
 use Rattle.revision_jobs.specs.declared.answer.Job.{Job}

@@ -34,7 +34,7 @@ calls_then (x ∷ xs) ys c d e f h = (f.0, calls_then xs ys x d e f.1 h)
 
 revised_by : (asked : Asked) (c d : BookState) → RevisedOrSame asked c d → LeadsByCalls c d
 revised_by asked c d (inl same) = ([], same)
-revised_by asked c d (inr made) = (d ∷ [], inl (_, made.makes.event.event), refl)
+revised_by asked c d (inr made) = (d ∷ [], (inl (_, made.makes.event.event), refl))
 
 taken_by : (format : Format) (text : List ℕ) (c d : BookState) → TakenOrSame format text c d → LeadsByCalls c d
 taken_by format bytes c d (inl same) = ([], same)

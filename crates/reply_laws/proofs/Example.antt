@@ -67,7 +67,7 @@ shows p = record {
     jobs = λ _. record {
       later = [];
       gave = sym (append-nil p.answers);
-      leaves = λ pending. absurd pending.there;
+      leaves = λ pending. absurd (cc pending.there);
     };
     silent = λ _. refl;
   };

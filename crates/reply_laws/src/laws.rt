@@ -60,7 +60,6 @@ pub fn current_is_scratch()
 
 /// Worked answers at a desk of the opening document, to which that law applies, as it does to those
 /// that each `run` gives.
-#[tactic(auto, using(crate::proofs::Example::first_given))]
 pub fn first_answers_are_given()
     ensures { FirstAnswersAreGiven }
 {}
