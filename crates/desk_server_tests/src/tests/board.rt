@@ -230,7 +230,12 @@ fn the_first_script_before_two_viewers(rt: HostRuntime) {
 
 /// The settling has three jobs: the text of the second bookmark, which needs no step, the step to
 /// generation 1, and the text of the first bookmark.
-const THREE_JOBS: &[u8] = b"set 0 0 1\nmark 1 counts\nmark 0 counts\nsettle\nquit\n";
+const THREE_JOBS: &[u8] = b"\
+    set 0 0 1\n\
+    mark 1 counts\n\
+    mark 0 counts\n\
+    settle\n\
+    quit\n";
 
 // A settling is shown as it begins and after each answer, and then the reply's own snapshot comes:
 // with the opening one and those of the three edits the history has nine.
@@ -260,7 +265,12 @@ fn a_settling_is_shown_answer_by_answer(rt: HostRuntime) {
         &mut listener,
     );
     same(&rt, &answered, &Ok(0), &"answered");
-    let replies: &[u8] = b"ok 1\nok 2 bookmark 1\nok 3 bookmark 2\nsettled\nbye\n";
+    let replies: &[u8] = b"\
+        ok 1\n\
+        ok 2 bookmark 1\n\
+        ok 3 bookmark 2\n\
+        settled\n\
+        bye\n";
     same(&rt, &told.as_slice(), &replies, &"told");
     // Before the first answer, the second and the third.
     let answers: &[u8] = b"5--\n6-+\n7-+\n";

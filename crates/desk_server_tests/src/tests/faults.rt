@@ -52,15 +52,31 @@ const BREAKS: &[Break] = &[
     },
     Break {
         count: 142,
-        replies: b"ok 1\nok 2\nok 3 bookmark 1\nsettled\n",
+        replies: b"\
+            ok 1\n\
+            ok 2\n\
+            ok 3 bookmark 1\n\
+            settled\n",
     },
     Break {
         count: 149,
-        replies: b"ok 1\nok 2\nok 3 bookmark 1\nsettled\nbookmark 1 current 4\n1 2\n",
+        replies: b"\
+            ok 1\n\
+            ok 2\n\
+            ok 3 bookmark 1\n\
+            settled\n\
+            bookmark 1 current 4\n\
+            1 2\n",
     },
     Break {
         count: 153,
-        replies: b"ok 1\nok 2\nok 3 bookmark 1\nsettled\nbookmark 1 current 4\n1 2\n",
+        replies: b"\
+            ok 1\n\
+            ok 2\n\
+            ok 3 bookmark 1\n\
+            settled\n\
+            bookmark 1 current 4\n\
+            1 2\n",
     },
 ];
 

@@ -1,7 +1,28 @@
 //! The first script that a reader of the desk's manual meets.
 
-pub const FIRST: &[u8] =
-    b"rule\n@RULE X\n@TABLE\nn_states:2\nneighborhood:oneDimensional\nsymmetries:none\n0,1,0,1\n0,0,1,1\n1,0,0,0\n1,1,1,0\nend\nset 0 0 1\nmark 2 counts\nsettle\nshow 1\nquit\n";
+pub const FIRST: &[u8] = b"\
+    rule\n\
+    @RULE X\n\
+    @TABLE\n\
+    n_states:2\n\
+    neighborhood:oneDimensional\n\
+    symmetries:none\n\
+    0,1,0,1\n\
+    0,0,1,1\n\
+    1,0,0,0\n\
+    1,1,1,0\n\
+    end\n\
+    set 0 0 1\n\
+    mark 2 counts\n\
+    settle\n\
+    show 1\n\
+    quit\n";
 
-pub const FIRST_REPLIES: &[u8] =
-    b"ok 1\nok 2\nok 3 bookmark 1\nsettled\nbookmark 1 current 4\n1 2\nbye\n";
+pub const FIRST_REPLIES: &[u8] = b"\
+    ok 1\n\
+    ok 2\n\
+    ok 3 bookmark 1\n\
+    settled\n\
+    bookmark 1 current 4\n\
+    1 2\n\
+    bye\n";

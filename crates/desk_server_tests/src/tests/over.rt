@@ -13,14 +13,37 @@ use std::sync::Wait;
 
 // The first job is the text of the second bookmark, which needs no step; the next is the step to
 // generation 1, and then comes the text of the first bookmark.
-const SCRIPT: &[u8] =
-    b"set 0 0 1\nmark 1 counts\nmark 0 counts\nsettle\nshow 1\nshow 2\nsettle\nquit\n";
+const SCRIPT: &[u8] = b"\
+    set 0 0 1\n\
+    mark 1 counts\n\
+    mark 0 counts\n\
+    settle\n\
+    show 1\n\
+    show 2\n\
+    settle\n\
+    quit\n";
 
-const SETTLED: &[u8] =
-    b"ok 1\nok 2 bookmark 1\nok 3 bookmark 2\nsettled\nbookmark 1 current 4\n1 1\nbookmark 2 current 4\n1 1\nsettled\nbye\n";
+const SETTLED: &[u8] = b"\
+    ok 1\n\
+    ok 2 bookmark 1\n\
+    ok 3 bookmark 2\n\
+    settled\n\
+    bookmark 1 current 4\n\
+    1 1\n\
+    bookmark 2 current 4\n\
+    1 1\n\
+    settled\n\
+    bye\n";
 
-const NOTHING: &[u8] =
-    b"ok 1\nok 2 bookmark 1\nok 3 bookmark 2\nunsettled 2 0\nbookmark 1 pending\nbookmark 2 pending\nunsettled 2 0\nbye\n";
+const NOTHING: &[u8] = b"\
+    ok 1\n\
+    ok 2 bookmark 1\n\
+    ok 3 bookmark 2\n\
+    unsettled 2 0\n\
+    bookmark 1 pending\n\
+    bookmark 2 pending\n\
+    unsettled 2 0\n\
+    bye\n";
 
 // The whole script is answered by these replies, and so many numbers of jobs are below the floor
 // of the post then.
@@ -98,9 +121,21 @@ fn a_closed_post_leaves_bookmarks_pending(rt: HostRuntime) {
     let alloc = rt.alloc();
     closes(&rt, alloc, 0, SCRIPT, NOTHING, 0);
     closes(&rt, alloc, 3, SCRIPT, SETTLED, 3);
-    let script = b"mark 0 counts\nsettle\nmark 1 counts\nsettle\nshow 1\nshow 2\n";
-    let replies =
-        b"ok 1 bookmark 1\nsettled\nok 2 bookmark 2\nunsettled 1 0\nbookmark 1 current 6\nempty\nbookmark 2 pending\n";
+    let script = b"\
+        mark 0 counts\n\
+        settle\n\
+        mark 1 counts\n\
+        settle\n\
+        show 1\n\
+        show 2\n";
+    let replies = b"\
+        ok 1 bookmark 1\n\
+        settled\n\
+        ok 2 bookmark 2\n\
+        unsettled 1 0\n\
+        bookmark 1 current 6\n\
+        empty\n\
+        bookmark 2 pending\n";
     closes(&rt, alloc, 1, script, replies, 1);
 }
 
@@ -129,8 +164,20 @@ fn answers_may_come_in_another_order(rt: HostRuntime) {
 #[test]
 fn work_sends_what_is_needed(rt: HostRuntime) {
     let alloc = rt.alloc();
-    let script = b"mark 0 counts\nmark 0 rle\nwork\nwork\nsettle\nwork\n";
-    let replies = b"ok 1 bookmark 1\nok 2 bookmark 2\nworking\nworking\nunsettled 2 0\nworking\n";
+    let script = b"\
+        mark 0 counts\n\
+        mark 0 rle\n\
+        work\n\
+        work\n\
+        settle\n\
+        work\n";
+    let replies = b"\
+        ok 1 bookmark 1\n\
+        ok 2 bookmark 2\n\
+        working\n\
+        working\n\
+        unsettled 2 0\n\
+        working\n";
     swallows(&rt, alloc, true, script, replies, 4);
     let script = b"mark 0 counts\nwork\nshow 1\n";
     let replies = b"ok 1 bookmark 1\nworking\nbookmark 1 pending\n";
@@ -138,11 +185,34 @@ fn work_sends_what_is_needed(rt: HostRuntime) {
 }
 
 // The first job is the step to generation 8. The intervention drops it, and its answer is stale.
-const WORKED: &[u8] =
-    b"rule\n@RULE X\n@TABLE\nn_states:2\nneighborhood:oneDimensional\nsymmetries:none\n0,1,0,1\n0,0,1,1\n1,0,0,0\n1,1,1,0\nend\nset 0 0 1\nmark 8 counts\nwork\nat 4 set 0 0 1\nsettle\nshow 1\n";
+const WORKED: &[u8] = b"\
+    rule\n\
+    @RULE X\n\
+    @TABLE\n\
+    n_states:2\n\
+    neighborhood:oneDimensional\n\
+    symmetries:none\n\
+    0,1,0,1\n\
+    0,0,1,1\n\
+    1,0,0,0\n\
+    1,1,1,0\n\
+    end\n\
+    set 0 0 1\n\
+    mark 8 counts\n\
+    work\n\
+    at 4 set 0 0 1\n\
+    settle\n\
+    show 1\n";
 
-const WORKED_REPLIES: &[u8] =
-    b"ok 1\nok 2\nok 3 bookmark 1\nworking\nok 4 intervention 1\nsettled\nbookmark 1 current 4\n1 4\n";
+const WORKED_REPLIES: &[u8] = b"\
+    ok 1\n\
+    ok 2\n\
+    ok 3 bookmark 1\n\
+    working\n\
+    ok 4 intervention 1\n\
+    settled\n\
+    bookmark 1 current 4\n\
+    1 4\n";
 
 #[test]
 fn an_edit_drops_what_work_sent(rt: HostRuntime) {
@@ -164,8 +234,18 @@ fn a_current_bookmark_is_shown_at_once(rt: HostRuntime) {
         alloc,
         &entries,
         &mut post,
-        b"mark 0 counts\nshow 1\nmark 0 counts\nshow 1\n",
-        b"ok 1 bookmark 1\nbookmark 1 current 6\nempty\nok 2 bookmark 2\nbookmark 1 current 6\nempty\n",
+        b"\
+            mark 0 counts\n\
+            show 1\n\
+            mark 0 counts\n\
+            show 1\n",
+        b"\
+            ok 1 bookmark 1\n\
+            bookmark 1 current 6\n\
+            empty\n\
+            ok 2 bookmark 2\n\
+            bookmark 1 current 6\n\
+            empty\n",
         1,
     );
 }
@@ -175,8 +255,16 @@ fn a_current_bookmark_is_shown_at_once(rt: HostRuntime) {
 #[test]
 fn work_sends_the_steps_of_two_branches(rt: HostRuntime) {
     let alloc = rt.alloc();
-    let script = b"branch 0 0\nmark 2 counts\non 1 mark 2 counts\nwork\n";
-    let replies = b"ok 1 branch 1\nok 2 bookmark 1\nok 3 bookmark 2\nworking\n";
+    let script = b"\
+        branch 0 0\n\
+        mark 2 counts\n\
+        on 1 mark 2 counts\n\
+        work\n";
+    let replies = b"\
+        ok 1 branch 1\n\
+        ok 2 bookmark 1\n\
+        ok 3 bookmark 2\n\
+        working\n";
     swallows(&rt, alloc, true, script, replies, 2);
 }
 
@@ -186,9 +274,32 @@ fn work_sends_the_steps_of_two_branches(rt: HostRuntime) {
 #[test]
 fn an_edit_is_felt_in_its_own_line(rt: HostRuntime) {
     let alloc = rt.alloc();
-    let script =
-        b"set 0 0 1\nbranch 0 2\non 1 at 2 set 2 0 1\non 1 mark 4 counts\nmark 4 counts\nsettle\ndrop 1\nshow 1\nshow 2\nat 1 set 1 0 1\nshow 1\nshow 2\n";
-    let replies =
-        b"ok 1\nok 2 branch 1\nok 3 intervention 1\nok 4 bookmark 1\nok 5 bookmark 2\nsettled\nok 6\nbookmark 1 pending\nbookmark 2 current 4\n1 1\nok 7 intervention 2\nbookmark 1 pending\nbookmark 2 pending\n";
+    let script = b"\
+        set 0 0 1\n\
+        branch 0 2\n\
+        on 1 at 2 set 2 0 1\n\
+        on 1 mark 4 counts\n\
+        mark 4 counts\n\
+        settle\n\
+        drop 1\n\
+        show 1\n\
+        show 2\n\
+        at 1 set 1 0 1\n\
+        show 1\n\
+        show 2\n";
+    let replies = b"\
+        ok 1\n\
+        ok 2 branch 1\n\
+        ok 3 intervention 1\n\
+        ok 4 bookmark 1\n\
+        ok 5 bookmark 2\n\
+        settled\n\
+        ok 6\n\
+        bookmark 1 pending\n\
+        bookmark 2 current 4\n\
+        1 1\n\
+        ok 7 intervention 2\n\
+        bookmark 1 pending\n\
+        bookmark 2 pending\n";
     closes(&rt, alloc, 5, script, replies, 5);
 }

@@ -8,14 +8,31 @@ use std::alloc::Global;
 use std::process::Abort;
 use std::sync::Wait;
 
-const SCRIPT: &[u8] = b"set 0 0 1\nmark 0 counts\nwork\nsettle\nshow 1\nquit\n";
+const SCRIPT: &[u8] = b"\
+    set 0 0 1\n\
+    mark 0 counts\n\
+    work\n\
+    settle\n\
+    show 1\n\
+    quit\n";
 
 // Each answer comes twice, or none comes.
-const REPEATED: &[u8] =
-    b"ok 1\nok 2 bookmark 1\nworking\nsettled\nbookmark 1 current 4\n1 1\nbye\n";
+const REPEATED: &[u8] = b"\
+    ok 1\n\
+    ok 2 bookmark 1\n\
+    working\n\
+    settled\n\
+    bookmark 1 current 4\n\
+    1 1\n\
+    bye\n";
 
-const SWALLOWED: &[u8] =
-    b"ok 1\nok 2 bookmark 1\nworking\nunsettled 1 0\nbookmark 1 pending\nbye\n";
+const SWALLOWED: &[u8] = b"\
+    ok 1\n\
+    ok 2 bookmark 1\n\
+    working\n\
+    unsettled 1 0\n\
+    bookmark 1 pending\n\
+    bye\n";
 
 // How the script ends over such a post, and what is written where so many bytes may be.
 fn answer(
