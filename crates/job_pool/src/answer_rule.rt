@@ -1,7 +1,7 @@
 //! The rule of the channel that brings answers back.
 
 use crossbeam_channel::protocol::{Lesson, Outcome, Protocol, Split};
-use revision_jobs::{Answer, Entries};
+use revision_jobs::{Entries, Worked};
 use std::marker::{Brand, PhantomData};
 
 /// What an end knows of the answers: their table, and how many squares a step may keep. It stands
@@ -11,10 +11,11 @@ pub(crate) struct Terms {
     pub(crate) limit: u32,
 }
 
-/// The rule: each answer is of the table and at the limit that all ends know.
+/// The rule: each answer is of the table and at the limit that all ends know. The type of what is
+/// sent keeps that no answer says that its job was stopped where no flag was seen raised.
 pub(crate) struct OfTable;
 
-impl Protocol<Answer, Option<Terms>> for OfTable {
+impl Protocol<Worked, Option<Terms>> for OfTable {
     ghost use Rattle.std.specs.Prelude.{None};
     ghost use Rattle.job_pool.specs.Home.{IsHome};
 
@@ -61,14 +62,14 @@ impl Split<Option<Terms>> for MakesEnd {
 /// A send or a receive: the end knows what it knew, and the answer is of its table and limit.
 pub(crate) struct Passes;
 
-impl Outcome<Answer, Option<Terms>> for Passes {
+impl Outcome<Worked, Option<Terms>> for Passes {
     ghost use Rattle.std.specs.Prelude.{◌≡◌};
     ghost use Rattle.job_pool.specs.Home.{IsAnswerOf};
 
     ghost then = { λ v answer w. (w ≡ v) × IsAnswerOf v answer };
 }
 
-impl Lesson<Answer, Option<Terms>> for Passes {
+impl Lesson<Worked, Option<Terms>> for Passes {
     ghost use Rattle.std.specs.Prelude.{⊤};
 
     ghost fact = { λ _ _. ⊤ };

@@ -2,12 +2,12 @@
 ghost use Rattle.std.specs.Prelude.{◌≡◌, ◌≤◌, All, IfOk, IfSome, Some, vec_len};
 ghost use Rattle.crossbeam_channel.specs.Claims.{view, IsSeatAt};
 ghost use Rattle.crossbeam_channel.specs.Ends.{sends_on};
-ghost use Rattle.revision_jobs.specs.Posted.{IsOwnAnswer, IsReceived};
+ghost use Rattle.revision_jobs.specs.Posted.{IsOwnAnswer};
 ghost use Rattle.job_pool.specs.Home.{terms_in, terms_of};
 
 use crate::answer_rule::{MakesEnd, NamesTerms, Naming, OfTable, Passes, Terms};
 use crossbeam_channel::{Pass, RuledReceiver, RuledSender, TryRecvError, bounded_with};
-use revision_jobs::{Answer, Entries, Received};
+use revision_jobs::{Entries, Worked};
 use std::alloc::{AllocError, Global};
 use std::marker::{Brand, Model};
 use std::sync::Wait;
@@ -18,8 +18,8 @@ const CAPACITY: usize = 32;
 /// A worker's end. Contracts see the table of its answers, and their limit.
 #[derive(Drop)]
 pub(crate) struct AnswerSender {
-    end: RuledSender<Answer, Option<Terms>, OfTable>,
-    pass: Pass<Answer, Option<Terms>>,
+    end: RuledSender<Worked, Option<Terms>, OfTable>,
+    pass: Pass<Worked, Option<Terms>>,
 }
 
 impl Model for AnswerSender {
@@ -40,8 +40,8 @@ impl Model for AnswerSender {
 /// The post's end. Contracts see the table of its answers, and their limit.
 #[derive(Drop)]
 pub(crate) struct AnswerReceiver {
-    end: RuledReceiver<Answer, Option<Terms>, OfTable>,
-    pass: Pass<Answer, Option<Terms>>,
+    end: RuledReceiver<Worked, Option<Terms>, OfTable>,
+    pass: Pass<Worked, Option<Terms>>,
 }
 
 impl Model for AnswerReceiver {
@@ -62,7 +62,7 @@ impl Model for AnswerReceiver {
 impl AnswerSender {
     /// Sends an answer back. It is dropped where nobody waits for it any more. It waits while 32
     /// answers wait.
-    pub(crate) fn send<R: Wait>(&mut self, rt: &R, answer: Answer)
+    pub(crate) fn send<R: Wait>(&mut self, rt: &R, answer: Worked)
         requires { IsOwnAnswer self.old.table self.old.limit answer }
         ensures { self.new ≡ self.old }
     {
@@ -71,29 +71,25 @@ impl AnswerSender {
 }
 
 impl AnswerReceiver {
-    /// The next answer. It waits while there is none, and is Ended where none is and no worker is
-    /// left.
-    pub(crate) fn receive<R: Wait>(&mut self, rt: &R) -> Received
+    /// The next answer. It waits while there is none, and is Disconnected where none is and no
+    /// worker is left.
+    pub(crate) fn receive<R: Wait>(&mut self, rt: &R) -> Result<Worked, TryRecvError>
         ensures same { self.new ≡ self.old }
-        ensures own { IsReceived self.old.table self.old.limit result }
+        ensures own { IfOk result (IsOwnAnswer self.old.table self.old.limit) }
     {
         match self.end.recv_as::<Passes, R>(rt, &mut self.pass) {
-            Ok(answer) => Received::Answer(answer),
-            Err(_) => Received::Ended,
+            Ok(answer) => Ok(answer),
+            Err(_) => Err(TryRecvError::Disconnected),
         }
     }
 
-    /// The next answer, if there is one already: Nothing where there is none, and Ended where no
-    /// worker is left either.
-    pub(crate) fn try_receive<R: Wait>(&mut self, rt: &R) -> Received
+    /// The next answer, if there is one already: Empty where there is none, and Disconnected where
+    /// no worker is left either.
+    pub(crate) fn try_receive<R: Wait>(&mut self, rt: &R) -> Result<Worked, TryRecvError>
         ensures same { self.new ≡ self.old }
-        ensures own { IsReceived self.old.table self.old.limit result }
+        ensures own { IfOk result (IsOwnAnswer self.old.table self.old.limit) }
     {
-        match self.end.try_recv_as::<Passes, R>(rt, &mut self.pass) {
-            Ok(answer) => Received::Answer(answer),
-            Err(TryRecvError::Empty) => Received::Nothing,
-            Err(TryRecvError::Disconnected) => Received::Ended,
-        }
+        self.end.try_recv_as::<Passes, R>(rt, &mut self.pass)
     }
 }
 
@@ -126,7 +122,7 @@ fn queue_of<K: Naming>(
     ensures receiver { IfOk result (λ ends. ends.1 ≡ terms_of entries.now limit) }
 {
     let mut all = Vec::new(alloc);
-    let (end, from, mut pass) = bounded_with::<Answer, Option<Terms>, OfTable, Global>(
+    let (end, from, mut pass) = bounded_with::<Worked, Option<Terms>, OfTable, Global>(
         alloc, CAPACITY,
     )?;
     let theirs = end.another::<NamesTerms<K>>(&mut pass);
@@ -142,8 +138,8 @@ fn queue_of<K: Naming>(
 
 // Another sender of the channel.
 fn another_sender(
-    end: &RuledSender<Answer, Option<Terms>, OfTable>,
-    pass: &mut Pass<Answer, Option<Terms>>,
+    end: &RuledSender<Worked, Option<Terms>, OfTable>,
+    pass: &mut Pass<Worked, Option<Terms>>,
 ) -> Result<AnswerSender, AllocError>
     requires queue { IsSeatAt (sends_on end.now) pass.old }
     requires tabled { view pass.old ≡ Some (terms_in (view pass.old)) }

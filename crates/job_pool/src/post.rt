@@ -3,7 +3,8 @@ ghost use Rattle.std.specs.Prelude.{◌≡◌};
 
 use crate::answers::AnswerReceiver;
 use crate::outbox::Outbox;
-use revision_jobs::{Job, Post, PostRecord, Received, Sent};
+use crossbeam_channel::TryRecvError;
+use revision_jobs::{Job, Post, PostRecord, Received, Sent, Worked};
 use std::marker::Model;
 use std::sync::Wait;
 
@@ -42,7 +43,9 @@ impl<'a, R: Wait> Model for PoolPost<'a, R> {
 }
 
 impl<'a, R: Wait> PoolPost<'a, R> {
-    ghost use Rattle.job_pool.specs.Pool.{pool_over};
+    ghost use Rattle.std.specs.Prelude.{IfOk};
+    ghost use Rattle.revision_jobs.specs.Posted.{IsOwnAnswer, Receives};
+    ghost use Rattle.job_pool.specs.Pool.{pool_over, pool_view};
 
     pub(crate) fn new(rt: &'a R, jobs: Outbox<'a>, back: AnswerReceiver) -> PoolPost<'a, R>
         requires { back.table ≡ jobs.table }
@@ -54,6 +57,23 @@ impl<'a, R: Wait> PoolPost<'a, R> {
             back,
             history: PostRecord::none(),
         }
+    }
+
+    // Gives what came back, and notes it.
+    fn give(&mut self, came: Result<Worked, TryRecvError>) -> Received
+        requires { IfOk came (IsOwnAnswer self.old.table self.old.limit) }
+        ensures { Receives (pool_view self.old) (pool_view self.new) result }
+    {
+        let received = match came {
+            Ok(worked) => {
+                self.jobs.note_answer(worked.answer().place());
+                return self.history.note_worked(worked);
+            }
+            Err(TryRecvError::Empty) => Received::Nothing,
+            Err(TryRecvError::Disconnected) => Received::Ended,
+        };
+        self.history.note_received(&received);
+        received
     }
 }
 
@@ -80,21 +100,13 @@ impl<'a, R: Wait> Post for PoolPost<'a, R> {
     }
 
     fn receive(&mut self) -> Received {
-        let received = self.back.receive(self.rt);
-        if let Received::Answer(answer) = &received {
-            self.jobs.note_answer(answer.place());
-        }
-        self.history.note_received(&received);
-        received
+        let came = self.back.receive(self.rt);
+        self.give(came)
     }
 
     fn try_receive(&mut self) -> Received {
-        let received = self.back.try_receive(self.rt);
-        if let Received::Answer(answer) = &received {
-            self.jobs.note_answer(answer.place());
-        }
-        self.history.note_received(&received);
-        received
+        let came = self.back.try_receive(self.rt);
+        self.give(came)
     }
 
     fn floor(&self) -> u64 {

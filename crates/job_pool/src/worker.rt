@@ -6,7 +6,7 @@ ghost use Rattle.job_pool.specs.Home.{terms_of};
 use crate::answers::AnswerSender;
 use crate::inbox::Inbox;
 use bumpalo::Bump;
-use revision_jobs::{Entries, Entry, Gate, Job, work, work_by};
+use revision_jobs::{Entries, Entry, Gate, Job, Worked, work, work_by};
 use std::alloc::Global;
 use std::sync::Wait;
 
@@ -63,7 +63,7 @@ fn work_alike<R: Wait, G: Gate>(
     let Ok(Some(mut engine)) = entries.at(&job.place).engine(alloc, &arena, squares) else {
         let mut stop = entries.stop(&job.place);
         let answer = work(alloc, job, entries, gate, &mut stop, squares);
-        back.send(rt, answer);
+        back.send(rt, Worked::by(answer, stop));
         return jobs.take(rt);
     };
     let mut next = Some(job);
@@ -75,7 +75,7 @@ fn work_alike<R: Wait, G: Gate>(
         let has_line = has_line(entries.at(&job.place));
         let mut stop = entries.stop(&job.place);
         let answer = work_by(alloc, &mut engine, job, entries, gate, &mut stop);
-        back.send(rt, answer);
+        back.send(rt, Worked::by(answer, stop));
         next = if has_line {
             jobs.take_after_step(rt)
         } else {

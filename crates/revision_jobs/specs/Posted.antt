@@ -1,5 +1,5 @@
 -- What a post does with jobs.
-use Rattle.std.specs.Prelude.{◌≡◌, ℕ, ◌+◌, ◌≤◌, List, [], ◌∷◌, ◌++◌, Option, Some, None, IsSome, Bool, true, false, Err, ⊤}
+use Rattle.std.specs.Prelude.{◌≡◌, ℕ, ◌+◌, List, [], ◌∷◌, ◌++◌, Option, Some, None, IsSome, Bool, true, false, Err, ⊤}
 use Rattle.worlds.specs.Stop.{CountsStop}
 use Rattle.step_engine.specs.declared.evolved.EvolveFault.{EvolveFault}
 use Rattle.revision_jobs.specs.declared.entries.Entries.{Entries}
@@ -14,8 +14,8 @@ use Rattle.revision_jobs.specs.Room.{HasNoRoom}
 
 -- a post: its table, how many squares a step may keep, one more than the greatest number that it
 -- took, the answers that it gave, whether it is prompt, the job that it holds if it is, how often
--- it was asked to send or to receive, how often it saw the flag of a job raised, and whether it
--- said Closed or Ended
+-- it was asked to send or to receive, how often a flag was seen raised for its answers, and whether
+-- it said Closed or Ended
 pub record PostView : Type 0 where
   pub table : Entries
   pub limit : ℕ
@@ -28,7 +28,7 @@ pub record PostView : Type 0 where
   pub is_over : Bool
 
 -- what a post was asked and what it said: the answers that it gave, how often it was asked, how
--- often it saw a flag raised, and whether it said Closed or Ended
+-- often a flag was seen raised for its answers, and whether it said Closed or Ended
 pub record PostHistory : Type 0 where
   pub answers : List JobResult
   pub asked : ℕ
@@ -88,12 +88,12 @@ ReceivesPromptly before after (Answer answer) = (before ≡ Some answer.job) × 
 ReceivesPromptly before after Nothing = (before ≡ None) × (after ≡ None)
 ReceivesPromptly before after Ended = ⊥
 
--- it saw a flag raised, once, exactly where it answers that the job was stopped
-abbrev pub StopsPromptly : ℕ → ℕ → Received → Type 0
-StopsPromptly before after (Answer answer) =
+-- a flag was seen raised, once, exactly where a post answers that a job was stopped
+abbrev pub SeesStop : ℕ → ℕ → Received → Type 0
+SeesStop before after (Answer answer) =
     CountsStop answer.outcome (Err EvolveFault.Stopped) before after
-StopsPromptly before after Nothing = after ≡ before
-StopsPromptly before after Ended = ⊥
+SeesStop before after Nothing = after ≡ before
+SeesStop before after Ended = after ≡ before
 
 -- a post was asked once more, and has the table, the limit and the kind that it had
 pub record IsAsked (old new : PostView) : Type 0 where
@@ -113,17 +113,16 @@ pub record Sends (job : Job) (old new : PostView) (said : Sent) : Type 0 where
   pub prompt : old.is_prompt ≡ true → SendsPromptly job old.held new.held said
 
 -- a post was asked for an answer, and said this: an answer is one of its table and at its limit,
--- and stands behind those that were given; a prompt post says that a job was stopped only where it
--- saw the job's flag raised
+-- and stands behind those that were given; it says that a job was stopped exactly where a flag was
+-- seen raised for it
 pub record Receives (old new : PostView) (said : Received) : Type 0 where
   pub same : IsAsked old new
   pub floor : new.floor ≡ old.floor
   pub own : IsReceived old.table old.limit said
   pub answers : new.answers ≡ answers_with old.answers said
-  pub stops : old.stops ≤ new.stops
+  pub stops : SeesStop old.stops new.stops said
   pub over : new.is_over ≡ over_received old.is_over said
   pub prompt : old.is_prompt ≡ true → ReceivesPromptly old.held new.held said
-  pub stopped : old.is_prompt ≡ true → StopsPromptly old.stops new.stops said
 
 -- the history with one more send, which came to this
 abbrev pub history_sent : PostHistory → Sent → PostHistory
@@ -143,11 +142,9 @@ history_received before said = record {
   is_over = over_received before.is_over said;
 }
 
--- and with so many flags seen raised
-abbrev pub history_stopped : PostHistory → ℕ → PostHistory
-history_stopped before seen = record {
-  answers = before.answers;
-  asked = before.asked;
-  stops = before.stops + seen;
-  is_over = before.is_over;
-}
+-- it is noted that a post was asked for an answer, and said this
+pub record NotesReceived (old new : PostHistory) (said : Received) : Type 0 where
+  pub answers : new.answers ≡ answers_with old.answers said
+  pub asked : new.asked ≡ old.asked + 1
+  pub stops : SeesStop old.stops new.stops said
+  pub over : new.is_over ≡ over_received old.is_over said

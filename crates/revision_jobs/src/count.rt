@@ -19,6 +19,12 @@ impl Names<Tag> for OneMore {
     ghost numbers = { λ tag. 0 ∷ tag.numbers };
 }
 
+struct Same;
+
+impl Names<Tag> for Same {
+    ghost numbers = { λ tag. tag.numbers };
+}
+
 struct Sum;
 
 impl Names<(Tag, Tag)> for Sum {
@@ -53,5 +59,13 @@ impl Count {
     {
         let before = mem::replace(&mut self.tag, Tag::empty());
         self.tag = Tag::of::<(Tag, Tag), Sum>(&(before, more.tag));
+    }
+
+    pub(crate) fn again(&self) -> Count
+        ensures { result ≡ self.now }
+    {
+        Count {
+            tag: Tag::of::<Tag, Same>(&self.tag),
+        }
     }
 }

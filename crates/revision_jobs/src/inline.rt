@@ -7,6 +7,7 @@ use crate::entries::Entries;
 use crate::gate::NoGate;
 use crate::post::{Post, Received, Sent};
 use crate::post_record::PostRecord;
+use crate::worked::Worked;
 use crate::worker::work;
 use std::alloc::Global;
 use std::marker::Model;
@@ -74,24 +75,20 @@ impl<'a> Post for InlinePost<'a> {
     }
 
     fn receive(&mut self) -> Received {
-        let received = match self.held.take() {
-            Some(job) => {
-                let mut stop = self.entries.stop(&job.place);
-                let answer = work(
-                    self.alloc,
-                    job,
-                    self.entries,
-                    &mut NoGate,
-                    &mut stop,
-                    self.squares,
-                );
-                self.history.note_stop(stop);
-                Received::Answer(answer)
-            }
-            None => Received::Nothing,
+        let Some(job) = self.held.take() else {
+            self.history.note_received(&Received::Nothing);
+            return Received::Nothing;
         };
-        self.history.note_received(&received);
-        received
+        let mut stop = self.entries.stop(&job.place);
+        let answer = work(
+            self.alloc,
+            job,
+            self.entries,
+            &mut NoGate,
+            &mut stop,
+            self.squares,
+        );
+        self.history.note_worked(Worked::by(answer, stop))
     }
 
     fn try_receive(&mut self) -> Received {

@@ -32,10 +32,10 @@ pub enum Received {
 /// Contracts see it as a `PostView`: its table, and the limit of the squares that a step may keep,
 /// at which each answer was worked; its floor, which is one more than the greatest number that it
 /// took, 0 before any; every answer that it gave so far, the latest last; how often it was asked to
-/// send or to receive, how often it saw the flag of a job raised, and whether it said Closed or
-/// Ended. A post that is prompt holds at most one job, takes a job where it holds none, and answers
-/// the one that it holds at the next receive. It answers that the job was stopped exactly where it
-/// saw the job's flag raised.
+/// send or to receive, how often a flag was seen raised for its answers, and whether it said Closed
+/// or Ended. It answers that a job was stopped exactly where a flag was seen raised for the answer.
+/// A post that is prompt holds at most one job, takes a job where it holds none, and answers the one
+/// that it holds at the next receive.
 ///
 /// `Sends` and `Receives` say what being asked changes of that.
 pub trait Post {

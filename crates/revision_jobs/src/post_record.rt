@@ -1,19 +1,21 @@
 //! What a post was asked and what it said.
 ghost use Rattle.std.specs.Prelude.{◌≡◌};
-ghost use Rattle.revision_jobs.specs.Posted.{history_received, history_sent};
-ghost use Rattle.revision_jobs.specs.Posted.{history_stopped, no_history};
+ghost use Rattle.revision_jobs.specs.declared.post.Received.TheVariants as received;
+ghost use Rattle.revision_jobs.specs.Posted.{NotesReceived, history_received, history_sent};
+ghost use Rattle.revision_jobs.specs.Posted.{no_history};
 
 use crate::answers::Answers;
 use crate::count::Count;
 use crate::post::{Received, Sent};
-use crate::stop::{EntryStop, Seen};
+use crate::stop::Seen;
+use crate::worked::Worked;
 use std::marker::Model;
 use std::snapshot::Snapshot;
 
 /// What a post was asked and what it said so far, as clauses see it: the answers that it gave, how
-/// often it was asked to send or to receive, how often it saw a flag raised, and whether it said
-/// Closed or Ended. It takes no bytes and no memory, and nothing can be read from it. Each post notes
-/// here what it says.
+/// often it was asked to send or to receive, how often a flag was seen raised for its answers, and
+/// whether it said Closed or Ended. It takes no bytes and no memory, and nothing can be read from
+/// it. Each post notes here what it says.
 pub struct PostRecord {
     answers: Answers,
     asked: Count,
@@ -73,7 +75,8 @@ impl PostRecord {
         }
     }
 
-    /// Notes what the post said when it was asked for an answer.
+    /// Notes what the post said when it was asked for an answer, but no flag that was seen raised:
+    /// a post notes the answers that it had worked by `note_worked`.
     pub fn note_received(&mut self, received: &Received)
         ensures { self.new ≡ history_received self.old received.now }
     {
@@ -85,10 +88,15 @@ impl PostRecord {
         }
     }
 
-    /// Notes how often the stop of a job saw its flag raised.
-    pub fn note_stop(&mut self, stop: EntryStop<'_>)
-        ensures { self.new ≡ history_stopped self.old stop.entry }
+    /// Notes an answer that the post gives, and whether a flag was seen raised for it.
+    pub fn note_worked(&mut self, worked: Worked) -> Received
+        ensures given { result ≡ received.Answer worked }
+        ensures noted { NotesReceived self.old self.new result }
     {
-        self.stops.take_over(stop);
+        let (answer, seen) = worked.into_parts();
+        self.stops.add(seen);
+        let received = Received::Answer(answer);
+        self.note_received(&received);
+        received
     }
 }

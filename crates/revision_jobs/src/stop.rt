@@ -31,6 +31,14 @@ impl<'a> EntryStop<'a> {
             yes: Seen::none(),
         }
     }
+
+    /// How often it saw its flag raised.
+    pub(crate) fn into_seen(self) -> Seen
+        ensures { result ≡ self.entry }
+    {
+        let EntryStop { flag: _, yes } = self;
+        yes
+    }
 }
 
 impl<'a> Stop for EntryStop<'a> {
@@ -45,8 +53,9 @@ impl<'a> Stop for EntryStop<'a> {
     }
 }
 
-/// How often flags were seen raised, for clauses alone. It rises nowhere but in a stop that has just
-/// read its flag as raised: what else holds one has no way to raise it but to take over a stop.
+/// How often flags were seen raised, for clauses alone. It rises nowhere but in a stop that has
+/// just read its flag as raised: what else holds one can only give it once more, or add what another
+/// saw.
 #[derive(Drop)]
 pub(crate) struct Seen {
     times: Count,
@@ -76,10 +85,19 @@ impl Seen {
         self.times.raise();
     }
 
-    /// What the stop saw is counted here from now on.
-    pub(crate) fn take_over(&mut self, stop: EntryStop<'_>)
-        ensures { self.new ≡ self.old + stop.entry }
+    /// What another saw is counted here from now on.
+    pub(crate) fn add(&mut self, more: Seen)
+        ensures { self.new ≡ self.old + more }
     {
-        self.times.add(stop.yes.times);
+        self.times.add(more.times);
+    }
+
+    /// The same once more.
+    pub(crate) fn again(&self) -> Seen
+        ensures { result ≡ self.now }
+    {
+        Seen {
+            times: self.times.again(),
+        }
     }
 }
