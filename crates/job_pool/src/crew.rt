@@ -4,8 +4,9 @@ ghost use Rattle.job_pool.specs.Lanes.{new_outgoing};
 ghost use Rattle.job_pool.specs.Home.{terms_of};
 ghost use Rattle.job_pool.specs.Pool.{AreEnds, CallGives, CallTakes, new_pool, pool_over};
 
-use crate::answers::{AnswerReceiver, answer_queue};
+use crate::answers::{AnswerReceiver, AnswerSender, answer_queue};
 use crate::fault::{NoPool, PoolFault};
+use crate::inbox::Inbox;
 use crate::lanes::lanes;
 use crate::outbox::Outbox;
 use crate::post::PoolPost;
@@ -14,7 +15,7 @@ use revision_jobs::{Entries, Gate};
 use std::alloc::Global;
 use std::sync::Wait;
 use std::thread;
-use std::thread::Threads;
+use std::thread::{Scope, Threads};
 
 /// Calls the body once, on a post of the table that took no job yet, whose jobs are worked by a
 /// thread for each gate, 1 to 8, and on the input; a step keeps at most so many squares. The answer
@@ -61,28 +62,64 @@ where
                 (CallGives F.FnOnce body (new_pool entries.entry.now squares) input) }
             ensures refused { IfErr result (λ none. none.input ≡ input) }
         {
-            let count = gates.len();
-            let mut gates = gates;
-            let mut inboxes = inboxes;
-            let mut senders = senders;
-            'crew: for made in 0..count {
-                let (Some(gate), Some(jobs), Some(back)) = (
-                    gates.pop(),
-                    inboxes.pop(),
-                    senders.pop(),
-                ) else {
-                    unreachable!()
-                };
-                let worker = move ||
-                    requires { (jobs ≡ entries.now) × (back ≡ terms_of entries.now squares) }
-                { work_all(rt, alloc, entries, jobs, back, gate, squares) };
-                if scope.spawn(worker).is_err() {
-                    return Err(NoPool::of(PoolFault::NoWorker, input));
-                }
+            match start_all(scope, rt, alloc, entries, gates, inboxes, senders, squares) {
+                Ok(()) => Ok(attend(rt, outbox, receiver, input, body)),
+                Err(fault) => Err(NoPool::of(fault, input)),
             }
-            Ok(attend(rt, outbox, receiver, input, body))
         },
     )
+}
+
+// Starts a worker for each gate, with an inbox and a sender. It ends where a thread is refused.
+fn start_all<'s, E, R, G>(
+    scope: &Scope<'s, E>,
+    rt: &'s R,
+    alloc: Global,
+    entries: &'s Entries,
+    mut gates: Vec<G>,
+    mut inboxes: Vec<Inbox>,
+    mut senders: Vec<AnswerSender>,
+    squares: u32,
+) -> Result<(), PoolFault>
+where
+    R: Wait + Sync,
+    G: Gate + Send + Drop + 's,
+    requires { AreEnds entries.now squares (vec_len gates) inboxes.items senders.items }
+{
+    let count = gates.len();
+    'crew: for made in 0..count {
+        let (Some(gate), Some(jobs), Some(back)) = (gates.pop(), inboxes.pop(), senders.pop())
+        else {
+            unreachable!()
+        };
+        start(scope, rt, alloc, entries, jobs, back, gate, squares)?;
+    }
+    Ok(())
+}
+
+// Starts a worker, unless its thread is refused.
+fn start<'s, E, R, G>(
+    scope: &Scope<'s, E>,
+    rt: &'s R,
+    alloc: Global,
+    entries: &'s Entries,
+    jobs: Inbox,
+    back: AnswerSender,
+    gate: G,
+    squares: u32,
+) -> Result<(), PoolFault>
+where
+    R: Wait + Sync,
+    G: Gate + Send + Drop + 's,
+    requires { (jobs ≡ entries.now) × (back ≡ terms_of entries.now squares) }
+{
+    let worker = move ||
+        requires { (jobs ≡ entries.now) × (back ≡ terms_of entries.now squares) }
+    { work_all(rt, alloc, entries, jobs, back, gate, squares) };
+    match scope.spawn(worker) {
+        Ok(_) => Ok(()),
+        Err(_) => Err(PoolFault::NoWorker),
+    }
 }
 
 // Calls the body on a post, whose ends are closed when it returns, and on the input.

@@ -1,5 +1,5 @@
 use Rattle.job_pool.proofs.Names.{All, Entries, Terms, terms_of, vec_len, ◌+◌, ◌≡◌}
-use Rattle.job_pool.proofs.crew.fn.pool.scope.Given as goal
+use Rattle.job_pool.proofs.crew.start_all.Given as goal
 
 abbrev pub invariant-crew : goal.invariant-crew
 invariant-crew g l = record {

@@ -1,19 +1,19 @@
 use Rattle.job_pool.proofs.Names.{Entries, Terms, arith, terms_of, ◌≡◌}
 use Rattle.job_pool.proofs.Pops.{popped}
-use Rattle.job_pool.proofs.crew.fn.pool.scope.Goals as goal
+use Rattle.job_pool.proofs.crew.start_all.Goals as goal
 
-pub spawn-requires-after_bounds : goal.spawn-requires-after_bounds
-spawn-requires-after_bounds g c κs within =
-    let own = λ (s : Entries). s ≡ c.captures.entries.now in
-    let known = λ (s : Terms). s ≡ terms_of c.captures.entries.now c.captures.squares in (
+pub start-requires-after_bounds : goal.start-requires-after_bounds
+start-requires-after_bounds g c κs within =
+    let own = λ (s : Entries). s ≡ c.args.entries.now in
+    let known = λ (s : Terms). s ≡ terms_of c.args.entries.now c.args.squares in (
       (popped own _ _ _ c.in-Some-Some-Some.ensures'.items c.crew.invariant.inboxes).1,
       (popped known _ _ _ c.in-Some-Some-Some.ensures''.items c.crew.invariant.senders).1,
     )
 
 pub crew-preserved : goal.crew-preserved
 crew-preserved g c =
-    let own = λ (s : Entries). s ≡ c.captures.entries.now in
-    let known = λ (s : Terms). s ≡ terms_of c.captures.entries.now c.captures.squares in
+    let own = λ (s : Entries). s ≡ c.args.entries.now in
+    let known = λ (s : Terms). s ≡ terms_of c.args.entries.now c.args.squares in
     let gates = c.in-Some-Some-Some.ensures.cases in
     let inboxes = c.in-Some-Some-Some.ensures'.cases in
     let senders = c.in-Some-Some-Some.ensures''.cases in
