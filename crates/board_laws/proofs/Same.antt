@@ -128,7 +128,8 @@ shows_the_same one old new no_more at =
 -- what was computed before is entered for marks, and no text
 entered_text : (d e : BookState) (id : ℕ) → EntersSteps d e → row_of e (View id) ≡ row_of d (View id)
 entered_text d e id =
-    recalls_all (λ a b. row_of b (View id) ≡ row_of a (View id)) (λ a. refl)
+    recalls_all (λ a b. row_of b (View id) ≡ row_of a (View id))
+    (λ a b same. ap (λ (x : BookState). row_of x (View id)) same)
     (λ mark s a b c h k. k ∙ h.puts.rows (View id)) d e
 
 revised_kept : (asked : Asked) (d e : BookState) → Revises asked d e → ShowsKept asked d e
