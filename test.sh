@@ -1,13 +1,14 @@
 #!/bin/bash
-# Tests the program, without proving anything, in about five minutes on four processors.
+# Tests the program, without proving anything, in about six minutes on four processors.
 #
 #     ./test.sh                 tests the proved program, or where there is none of this text one built without proofs
 #     DESK=PROGRAM ./test.sh    tests another one
 #
-# These are the scripts of examples/, hostile use, refused allocations, threads under stress, the line of progress, the
-# model's own tests and random scripts that are compared with it, the clients, and how the program is built. Each part
-# says what it does; the last lines say what was left out and why, and count all of them. The random scripts and runs,
-# and the order of refused allocations, are those of the present commit.
+# These are the scripts of examples/, hostile use, refused allocations, threads under stress, the line of progress, speed
+# and room that could be lost, the model's own tests and random scripts that are compared with it, the clients, how the
+# program is built, and a minute of ./soak.sh. Each part says what it does; the last lines say what was left out and why,
+# and count all of them. The random scripts and runs, and the order of refused allocations, are those of the present
+# commit.
 cd "$(dirname "$0")" || exit 1
 if [ -z "${DESK-}" ]; then
     is_given=
@@ -58,7 +59,8 @@ counted "allocations that are refused in turn" 300 \
     python3 hostile/allocations.py "$DESK" --seconds 30 --seed "$commit"
 counted "threads under stress, and random runs whose threads stall" 300 \
     python3 hostile/threads.py "$DESK" --runs 100 --seed "$commit"
-counted "the line that says how far a settling is" 120 python3 hostile/progress.py "$DESK"
+counted "the line that says how far a settling is" 180 python3 hostile/progress.py "$DESK"
+counted "speed, memory and room that would be lost in silence" 180 python3 hostile/speed.py "$DESK"
 counted "random scripts, compared with the model" 180 \
     python3 model/differ.py --count 300 --jobs 4 --seed "$commit" --desk "$DESK"
 counted "tests in Python: the model, the clients, how the program is built, packages" 1800 \

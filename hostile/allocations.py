@@ -31,7 +31,7 @@ import time
 from concurrent.futures import Future, ThreadPoolExecutor
 from dataclasses import dataclass, field
 from pathlib import Path
-from typing import Dict, Iterable, Iterator, List, Optional, Sequence, Tuple
+from typing import Dict, Iterable, Iterator, List, NamedTuple, Optional, Sequence, Tuple
 
 ROOT = Path(__file__).resolve().parents[1]
 sys.path.insert(0, str(ROOT / "model"))
@@ -69,6 +69,7 @@ class Allocator:
 
     library: str
     folder: str
+    seconds: float = SECONDS
 
     def run(self, command: Sequence[str], script: bytes, refused: int, later: bool) -> Tuple[int, Ended]:
         """How many allocations a run has, where one is refused, and how it ends."""
@@ -79,10 +80,10 @@ class Allocator:
             settings.update(REFUSED=str(refused), LATER=str(int(later)))
             try:
                 done = subprocess.run(
-                    command, input=script, env=settings, capture_output=True, timeout=SECONDS, check=False
+                    command, input=script, env=settings, capture_output=True, timeout=self.seconds, check=False
                 )
             except subprocess.TimeoutExpired:
-                raise NotRight(f"it had not ended after {SECONDS} seconds") from None
+                raise NotRight(f"it had not ended after {self.seconds:.0f} seconds") from None
             (count,) = COUNT.unpack(Path(counted.name).read_bytes())
         return count, Ended(done.returncode, done.stdout, done.stderr)
 
@@ -98,6 +99,16 @@ class Share:
 ALL = Share()
 
 
+class Tried(NamedTuple):
+    """How many allocations of a case were refused, of how many."""
+
+    count: int
+    of: int
+
+    def __str__(self) -> str:
+        return f"{self.count} of {self.of} allocations"
+
+
 @dataclass
 class Case:
     """A script with words of the program, in which one allocation is refused, or all later ones too."""
@@ -111,8 +122,8 @@ class Case:
     def __str__(self) -> str:
         return f"{self.name}, {' '.join(self.words)}, {'all from one on' if self.later else 'one'} refused"
 
-    def check(self, allocator: Allocator, program: str, share: Share, seed: str) -> str:
-        """Refuses a share of the allocations in turn, and says how many of how many were tried."""
+    def check(self, allocator: Allocator, program: str, share: Share, seed: str) -> Tried:
+        """Refuses a share of the allocations in turn."""
         command, has_few = [program, *self.words], has_few_squares(list(self.words))
         count, ended = allocator.run(command, self.script, 0, False)
         wrong = self.wrong_with(ended, SQUARES if has_few else NOTHING, 0)
@@ -131,7 +142,7 @@ class Case:
             if found < number and number > count:
                 break
             tried += 1
-        return f"{tried} of {max(count, tried)} allocations"
+        return Tried(tried, max(count, tried))
 
     def numbers(self, count: int, seed: str) -> Iterable[int]:
         """The numbers of a run's allocations in an order of chance, and further ones, which other runs may have."""
@@ -177,19 +188,23 @@ def long_cases() -> Iterator[Case]:
 
 def random_cases(seed: str, count: int) -> Iterator[Case]:
     for number in range(count):
-        script = random_script(f"{seed}/{number}")
-        yield Case(f"{seed}/{number}", script, words_of(script), number % 2 == 1)
+        yield random_case(seed, number)
 
 
-def made_in(folder: str) -> Allocator:
-    """The allocator, made by the C compiler."""
+def random_case(seed: str, number: int) -> Case:
+    script = random_script(f"{seed}/{number}")
+    return Case(f"{seed}/{number}", script, words_of(script), number % 2 == 1)
+
+
+def made_in(folder: str, seconds: float = SECONDS) -> Allocator:
+    """The allocator, made by the C compiler, whose runs may take so many seconds."""
     library = f"{folder}/refuse_alloc.so"
     source = str(ROOT / "hostile" / "refuse_alloc.c")
     subprocess.run(["cc", "-O2", "-shared", "-fPIC", "-o", library, source], check=True)
-    return Allocator(library, folder)
+    return Allocator(library, folder, seconds)
 
 
-def passes(case: Case, checked: Future[str], quietly: bool) -> bool:
+def passes(case: Case, checked: Future[Tried], quietly: bool) -> bool:
     """Whether a case passed, which is said."""
     try:
         said = checked.result()

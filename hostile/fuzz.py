@@ -46,6 +46,10 @@ class Cost(NamedTuple):
     seconds: float
     memory: int
 
+    def or_more(self, other: Cost) -> Cost:
+        """The most of each."""
+        return Cost(max(self.seconds, other.seconds), max(self.memory, other.memory))
+
     def is_too_dear(self, size: int) -> bool:
         """Whether a file of so many bytes took more than it may."""
         return self.memory > (64 << 20) + 100 * size or self.seconds > 0.1 + size / 100000
@@ -125,14 +129,22 @@ def run(program: str, script: bytes) -> Tuple[Optional[int], bytes, bytes, Cost]
         return None if is_late else process.returncode, out.read(), err.read(), cost
 
 
+class Bad(NamedTuple):
+    """A script of files that is replied to otherwise than it may be, and what is wrong."""
+
+    script: bytes
+    fault: str
+
+
 @dataclass
 class Fuzzing:
-    """What was found in the files so far."""
+    """What was found in the files so far: bad ones, the most that a run took, and the dearest of each reply."""
 
     program: str
     runner: concurrent.futures.Executor
     corpus: Corpus
-    bad: int = 0
+    bad: List[Bad] = field(default_factory=list)
+    most: Cost = Cost(0, 0)
     dear: Dict[Tuple[Format, bytes], Tuple[Cost, bytes]] = field(default_factory=dict)
 
     def batch(self, seed: int) -> None:
@@ -152,6 +164,7 @@ class Fuzzing:
     def give(self, seed: int, files: Sequence[File], is_judged: bool) -> None:
         script = b"".join(it.command() for it in files)
         status, out, err, cost = self.run(script)
+        self.most = self.most.or_more(cost)
         replies = out.splitlines()
         wrong = None
         if status != 0 or err or len(replies) != len(files):
@@ -162,8 +175,8 @@ class Fuzzing:
             except Difference as difference:
                 wrong = str(difference)
         if wrong:
-            self.bad += 1
-            print(f"seed {seed}: {wrong}", flush=True)
+            self.bad.append(Bad(script, f"seed {seed}: {wrong}"))
+            print(self.bad[-1].fault, flush=True)
             return
         for file, reply in zip(files, replies):
             self.corpus.take(file, reply)
@@ -185,7 +198,7 @@ class Fuzzing:
         for (form, reply), (cost, text) in sorted(self.dear.items(), key=lambda it: it[1], reverse=True):
             print(f"dear: {form.name}, {reply.decode()}, {len(text)} bytes, {cost.seconds:.2f} s, "
                   f"{cost.memory >> 20} MB: {text[:160]!r}")
-        print(f"{sum(self.corpus.counted.values())} files in {batches} batches, {self.bad} of them bad; "
+        print(f"{sum(self.corpus.counted.values())} files in {batches} batches, {len(self.bad)} of them bad; "
               f"{len(self.corpus.seen)} different replies; {len(self.dear)} of them dear")
 
 

@@ -9,40 +9,24 @@ the last line counts them.
 """
 import os
 import pty
-import random
 import re
 import select
 import subprocess
 import sys
+import tempfile
 import time
+
+from life import soup, start
 
 ROOT = os.path.dirname(os.path.dirname(os.path.realpath(__file__)))
 PROGRAM = os.path.realpath(sys.argv[1] if len(sys.argv) > 1 else f"{ROOT}/crates/desk/out/desk")
 
-LIFE = """rule
-@RULE Life
-@TABLE
-n_states:2
-neighborhood:Moore
-symmetries:permute
-var a={0,1}
-var b=a
-var c=a
-var d=a
-var e=a
-var f=a
-var g=a
-var h=a
-0,1,1,1,0,0,0,0,0,1
-1,1,1,0,0,0,0,0,0,1
-1,1,1,1,0,0,0,0,0,1
-1,a,b,c,d,e,f,g,h,0
-end
-"""
 SHORT = "mark 0 counts\nsettle\nquit\n"
 # A settling of the soup takes so many seconds at least; a larger soup is taken where it doesn't.
 LEAST_SECONDS, SIDES = 3.5, (128, 192, 256, 384, 512, 768)
 SECONDS = 120
+# So long a program is left alone behind a reply. A line would come back within a second.
+SECONDS_ALONE = 3
 # A program whose end waited for its viewer's second would take longer than this each time.
 SECONDS_TO_END, ENDS = 0.4, 8
 
@@ -59,12 +43,9 @@ def need(holds, found):
         raise Wrong(found)
 
 
-def soup(side):
-    """A script that settles a soup of so many rows, and looks at it at eight generations."""
-    cells = random.Random(f"soup {side}")
-    rows = "$\n".join("".join(cells.choice("bo") for _ in range(side)) for _ in range(side))
-    marks = "".join(f"mark {128 * k} counts\n" for k in range(1, 9))
-    return f"{LIFE}start rle\nx = {side}, y = {side}\n{rows}!\nend\n{marks}settle\nshow 8\nquit\n"
+def edits(side):
+    """A script of a soup of so many rows, which is looked at at eight generations."""
+    return start(soup(side)) + "".join(f"mark {128 * k} counts\n" for k in range(1, 9))
 
 
 def run(script, *words, **devices):
@@ -120,13 +101,13 @@ SOUP = {}
 
 
 def long_soup():
-    """A soup that takes long enough, and the replies to it without progress."""
+    """A script that settles a soup that takes long enough, and the replies to it without progress."""
     if not SOUP:
         for side in SIDES:
-            script = soup(side)
+            script = f"{edits(side)}settle\nshow 8\nquit\n"
             out, err, status, took = run(script)
             need((status, err) == (0, b""), (status, err))
-            SOUP.update(script=script, out=out)
+            SOUP.update(script=script, out=out, side=side)
             if took >= LEAST_SECONDS:
                 break
     return SOUP["script"], SOUP["out"]
@@ -158,6 +139,39 @@ def the_line_is_cleared_before_the_reply():
     need(replies == wanted, "other replies")
 
 
+def nothing_comes_behind(command, reply):
+    """What a command shows is cleared before its reply, and the line stays away while the program is left alone."""
+    long_soup()
+    with tempfile.TemporaryFile() as errors, subprocess.Popen(
+            [PROGRAM, "--workers", "1", "--progress"], stdin=subprocess.PIPE, stdout=subprocess.PIPE,
+            stderr=errors) as process:
+        process.stdin.write(f"{edits(SOUP['side'])}{command}\n".encode())
+        process.stdin.flush()
+        for line in process.stdout:
+            if line.startswith(reply):
+                break
+        shown = [written_to(errors)]
+        time.sleep(SECONDS_ALONE)
+        shown.append(written_to(errors))
+        process.communicate(timeout=SECONDS)
+    need(LINE.search(shown[0]), f"no line was shown: {shown[0]!r}")
+    need(shown[0].endswith(CLEARED), f"at the reply there stands {shown[0][-80:]!r}")
+    need(shown[1] == shown[0], f"behind the reply comes {shown[1][len(shown[0]):]!r}")
+
+
+def written_to(file):
+    """All that was written to a file so far."""
+    return os.pread(file.fileno(), os.fstat(file.fileno()).st_size, 0)
+
+
+def no_line_comes_behind_settled():
+    nothing_comes_behind("settle", b"settled")
+
+
+def no_line_comes_behind_what_is_shown():
+    nothing_comes_behind("show 8", b"bookmark 8 current")
+
+
 def a_short_settling_shows_nothing():
     out, err, status, _ = run(SHORT, "--progress")
     need((out, err, status) == (b"ok 1 bookmark 1\nsettled\nbye\n", b"", 0), (out, err, status))
@@ -187,6 +201,7 @@ def a_broken_standard_error_changes_nothing():
 
 CASES = [
     a_pipe_gets_lines_with_the_option, a_terminal_gets_them_without_it, the_line_is_cleared_before_the_reply,
+    no_line_comes_behind_settled, no_line_comes_behind_what_is_shown,
     a_short_settling_shows_nothing, the_end_is_not_held_up, a_closed_standard_error_changes_nothing,
     a_broken_standard_error_changes_nothing,
 ]

@@ -10,7 +10,8 @@ from pathlib import Path
 from typing import Callable, Dict, Iterator, List, NamedTuple
 
 # A program may be found so often in a row with all threads asleep while a reply is due, each time after a wait of so
-# many seconds, which makes five. Where the machine is busy these waits take longer, and threads are found that would run.
+# many seconds, which makes five. Where the machine is busy these waits take longer, and threads are found that would
+# run.
 LOOKS, SECONDS_A_LOOK = 25, 0.2
 SECONDS_TO_REPLY, SECONDS_TO_END = 120, 20
 # So many seconds of the processor a program may take while something is polled for.
@@ -38,6 +39,7 @@ class Session:
         devices = {"stdin": subprocess.PIPE, "stdout": subprocess.PIPE, "stderr": subprocess.PIPE}
         self.process = subprocess.Popen([program, *words], bufsize=0, **{**devices, **settings})
         self.rest = bytearray()
+        self.patience: float = SECONDS_TO_REPLY
         self.is_sending: Callable[[], bool] = lambda: False
 
     def close(self) -> None:
@@ -73,10 +75,8 @@ class Session:
     def expect_text(self, bookmark: int, text: bytes) -> None:
         """Wants a bookmark to show a text."""
         self.expect(b"show %d" % bookmark, b"bookmark %d current %d" % (bookmark, len(text)))
-        while len(self.rest) < len(text):
-            need(self.read(), "the replies end within a text")
-        need(self.rest.startswith(text), f"bookmark {bookmark} shows {bytes(self.rest)!r}, not {text!r}")
-        del self.rest[: len(text)]
+        found = self.text(len(text))
+        need(found == text, f"bookmark {bookmark} shows {found!r}, not {text!r}")
 
     def is_known(self, bookmark: int) -> bool:
         """Whether a bookmark is current now."""
@@ -86,6 +86,22 @@ class Session:
             is_current |= line.startswith(b"bookmark %d on " % bookmark) and line.endswith(b" current")
             line = self.line()
         return is_current
+
+    def ask(self, command: bytes) -> bytes:
+        """Sends a command that shows at most one text, and gives its whole reply."""
+        self.tell(command)
+        line = self.line()
+        words = line.split()
+        is_text = words[:1] == [b"bookmark"] and words[2:3] == [b"current"]
+        return line + b"\n" + (self.text(int(words[3])) if is_text else b"")
+
+    def text(self, size: int) -> bytes:
+        """So many bytes of the replies."""
+        while len(self.rest) < size:
+            need(self.read(), "the replies end within a text")
+        found = bytes(self.rest[:size])
+        del self.rest[:size]
+        return found
 
     def line(self) -> bytes:
         """The next line of the replies."""
@@ -102,7 +118,7 @@ class Session:
             before, spent = spent, self.spent()
             asleep = asleep + 1 if self.sleeps() and spent == before and not self.is_sending() else 0
             need(asleep < LOOKS, "all threads sleep, and a reply is due")
-            need(time.monotonic() - begun < SECONDS_TO_REPLY, f"no reply within {SECONDS_TO_REPLY} s")
+            need(time.monotonic() - begun < self.patience, f"no reply within {self.patience:.0f} s")
         found = os.read(self.process.stdout.fileno(), 1 << 16)
         self.rest += found
         return bool(found)

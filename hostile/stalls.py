@@ -11,7 +11,7 @@ import tempfile
 import threading
 import time
 from pathlib import Path
-from typing import Iterator, Optional
+from typing import Iterator, List, NamedTuple, Optional
 
 from session import Session, Wrong, need, started
 
@@ -47,8 +47,9 @@ class _Writing:
         ways = ((25, self.mark), (8, self.branch), (7, self.intervene), (4, self.cells), (6, self.change),
                 (4, lambda: b"move %d %d" % (self.bookmark(), self.generation())),
                 (2, lambda: b"unmark %d" % self.bookmark()),
-                (12, lambda: b"work"), (14, lambda: b"poll"), (4, lambda: b"list"), (2, lambda: b"script"), (1, lambda: b"help"),
-                (7, lambda: b"settle"), (4, lambda: b"peek %d" % self.bookmark()), (3, lambda: b"show %d" % self.bookmark()))
+                (12, lambda: b"work"), (14, lambda: b"poll"), (4, lambda: b"list"), (2, lambda: b"script"),
+                (1, lambda: b"help"), (7, lambda: b"settle"), (4, lambda: b"peek %d" % self.bookmark()),
+                (3, lambda: b"show %d" % self.bookmark()))
         weights, writers = zip(*ways)
         return self.chance.choices(writers, weights)[0]()
 
@@ -114,11 +115,24 @@ def _run(session: Session, script: bytes, chance: random.Random) -> None:
         sender.join()
 
 
-def fault_of(program: str, seed: str, library: Optional[str]) -> Optional[str]:
-    """What is wrong with the run of a seed, if anything is."""
+class Planned(NamedTuple):
+    """A random run: its script, the program's words, and the chance by which the threads stall and the pieces come."""
+
+    script: bytes
+    words: List[str]
+    chance: random.Random
+
+
+def planned(seed: str) -> Planned:
+    """The run of a seed."""
     chance = random.Random(seed)
     script = _Writing(chance).script()
-    words = ["--workers", str(chance.randint(1, 8)), "--facts", chance.choice(("1", "64"))]
+    return Planned(script, ["--workers", str(chance.randint(1, 8)), "--facts", chance.choice(("1", "64"))], chance)
+
+
+def fault_of(program: str, seed: str, library: Optional[str]) -> Optional[str]:
+    """What is wrong with the run of a seed, if anything is."""
+    script, words, chance = planned(seed)
     stalling = {"LD_PRELOAD": library, "CHANCE": str(chance.getrandbits(32))} if library else {}
     with started(program, *words, env={**os.environ, **stalling}) as session:
         try:

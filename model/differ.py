@@ -15,6 +15,7 @@ import concurrent.futures
 import os
 import subprocess
 import sys
+import time
 from dataclasses import dataclass
 from typing import Callable, Iterator, List, Optional
 
@@ -32,27 +33,33 @@ FEW_SQUARES = 100000
 
 @dataclass(frozen=True)
 class Verdict:
-    """What came of a script: why it differs, if it does, and how many replies told of too few squares."""
+    """What came of a script: why it differs, if it does, how many replies told of too few squares, whether it is beyond
+    the model, and how many seconds the program took.
+    """
 
     difference: Optional[str] = None
     short_replies: int = 0
     is_beyond: bool = False
+    took: float = 0.0
 
 
 def verdict_on(script: bytes, program: str, seconds: int) -> Verdict:
     """Runs a script with the words that it names for some seconds at most, and judges the replies."""
-    words = words_of(script)
+    words, begun = words_of(script), time.monotonic()
     try:
         done = subprocess.run([program, *words], input=script, capture_output=True, timeout=seconds, check=False)
-        if done.returncode or done.stderr:
-            return Verdict(f"status {done.returncode}, {done.stderr[:200]!r}")
-        return Verdict(short_replies=judge(script, done.stdout, SQUARES if has_few_squares(words) else NOTHING))
-    except Difference as difference:
-        return Verdict(str(difference))
-    except BeyondTheModel:
-        return Verdict(is_beyond=True)
     except subprocess.TimeoutExpired:
-        return Verdict(f"it had not ended after {seconds} seconds")
+        return Verdict(f"it had not ended after {seconds} seconds", took=seconds)
+    took = time.monotonic() - begun
+    if done.returncode or done.stderr:
+        return Verdict(f"status {done.returncode}, {done.stderr[:200]!r}", took=took)
+    try:
+        short_replies = judge(script, done.stdout, SQUARES if has_few_squares(words) else NOTHING)
+    except Difference as difference:
+        return Verdict(str(difference), took=took)
+    except BeyondTheModel:
+        return Verdict(is_beyond=True, took=took)
+    return Verdict(short_replies=short_replies, took=took)
 
 
 def has_few_squares(words: List[str]) -> bool:

@@ -21,8 +21,8 @@ from typing import Iterator, List, NamedTuple
 ROOT = pathlib.Path(__file__).resolve().parents[1]
 sys.path.insert(0, str(ROOT / "model"))
 
-from differ import has_few_squares
-from scripts import random_script, words_of
+from differ import has_few_squares  # noqa: E402
+from scripts import random_script, words_of  # noqa: E402
 
 BUILT = ROOT / "crates/desk/out"
 SECONDS = 180

@@ -51,8 +51,8 @@ class RunnerTest(unittest.TestCase):
         self.assertEqual(self.told(ended)[1][-1], "tests: 0 passed, 1 failed, 0 left out")
 
     def test_what_fails_is_tried_once_more(self):
-        once = GOOD.format("from pathlib import Path; it = Path(__file__ + '.seen'); new = not it.exists(); it.touch(); "
-                           "self.assertFalse(new)")
+        once = GOOD.format("from pathlib import Path; it = Path(__file__ + '.seen'); new = not it.exists(); "
+                           "it.touch(); self.assertFalse(new)")
         status, lines = self.told(once)
         self.assertEqual((status, lines[-1]), (0, "tests: 1 passed, 0 failed, 0 left out"))
         self.assertTrue([it for it in lines if it.endswith("/test_0.py: once more, alone")], lines)

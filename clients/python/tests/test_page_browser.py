@@ -52,10 +52,12 @@ const drawn = () => new Promise((go) => requestAnimationFrame(() => setTimeout(g
 """
 
 
-def windows(document, places, window):
-    """The rows of states of a window at places, each a branch and a generation, as the program alone has them."""
+def windows(document, places, window, known=0):
+    """The rows of states of a window at places, each a branch and a generation, as the program alone has them. The
+    document has so many bookmarks already.
+    """
     marks = [f"{f'on {branch} ' if branch else ''}mark {generation} window {window}" for branch, generation in places]
-    shows = [f"show {it + 1}" for it in range(len(places))]
+    shows = [f"show {it + 1}" for it in range(known, known + len(places))]
     script = document + "\n".join([*marks, "settle", *shows, ""]).encode()
     run = subprocess.run([PROGRAM], input=script, capture_output=True, check=True, timeout=120)
     lines, found = run.stdout.decode().splitlines(), []

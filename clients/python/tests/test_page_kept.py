@@ -1,24 +1,13 @@
 """Tests that nothing is lost: the page saves by itself, warns, saves without its server, and mends its program."""
-import asyncio
 import os
 import signal
 import subprocess
 import time
 import unittest
-from unittest import mock
 
 from page_browser import InBrowser
 from places import PROGRAM
-from test_page_with import LIFE, here_or_elsewhere, slack, soup
-
-try:
-    from desk.page import keeper
-    from desk.page.document import Bookmark, Document, File
-    from desk.page.looks import Tab
-    from desk.page.painting import Place, painted
-    from desk.page.session import Session
-except ImportError:
-    keeper = None
+from test_page_with import here_or_elsewhere, slack
 
 
 def load_tests(loader, tests, pattern):
@@ -145,38 +134,6 @@ class KeptTest(InBrowser):
         self.until("app.state.bookmarks[0]?.isCurrent")
         self.until_known(0, 0)
         self.assertEqual(self.js("return app.frames.stateAt(app.pane.place, { x: 5n, y: -3n })"), 3)
-
-
-@unittest.skipUnless(keeper, "there is no aiohttp")
-class MemoryTest(unittest.IsolatedAsyncioTestCase):
-    async def test_a_program_that_has_grown_is_started_anew_with_all_edits(self):
-        session, most = Session([PROGRAM]), 20 << 20
-        await session.begin()
-        self.addAsyncCleanup(session.close)
-        watch = asyncio.create_task(session.watch())
-        self.addCleanup(watch.cancel)
-        start = File("rule", "life", LIFE), File("start rle", "soup", soup(300))
-        marks = {it: Bookmark(0, 20 * it, "counts") for it in (1, 2, 3)}
-        sizes, programs, tab = [], set(), Tab()
-        with mock.patch.object(keeper, "MOST_MEMORY", most), mock.patch.object(keeper, "MOST_AT_WORK", 2 * most):
-            await session.edit(lambda it: Document(*start, bookmarks=marks))
-            for it in range(150):
-                await session.edit(lambda old, it=it: painted(old, Place(0, 0), [(it, 0, it % 2)], session.new_id))
-                while session.pending or not session.keeper.program:
-                    await asyncio.sleep(0.005)
-                sizes.append(session.keeper.size)
-                programs.add(session.keeper.program.pid)
-        self.assertGreater(sizes[0], 0)
-        self.assertGreater(len(programs), 1)
-        self.assertLess(max(sizes), 2 * most)
-        tab.look_at([[0, 0, "window 0 0 150 1"]])
-        session.views.tabs.append(tab)
-        session.wake()
-        while True:
-            message = await asyncio.wait_for(tab.outbox.get(), 20)
-            if message["type"] == "look":
-                break
-        self.assertEqual(message["text"].split(), ["0", "1"] * 75)
 
 
 if __name__ == "__main__":

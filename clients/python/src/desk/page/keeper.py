@@ -15,6 +15,9 @@ MOST_LOSSES, LOSSES_WITHIN = 3, 60.0
 # The patterns of old edits stay in a program's memory. Beyond so many bytes it is started anew while all is current,
 # and beyond MOST_AT_WORK by the next edit of patterns; but not where the document itself takes more than half of it.
 MOST_MEMORY, MOST_AT_WORK = 1 << 30, 5 << 28
+# Beyond so many it is started anew also while something is pending and nothing is edited, as where somebody looks at
+# one generation after another. What is pending may need them: so each further time it may take twice as many.
+MOST_AT_ALL = 3 << 30
 TOO_OFTEN = "again and again. It isn't started any more before `Try again`; undo an edit first."
 
 
@@ -35,6 +38,7 @@ class Keeper:
         self.started = 0
         self.is_lost = self.is_closed = False
         self._needed = 0  # bytes that it took when all was current for the first time
+        self._given_up = 0  # bytes that it took when it was last started anew while something was pending
         self._losses: List[float] = []
 
     @property
@@ -48,6 +52,16 @@ class Keeper:
         if is_current and not self._needed:
             self._needed = size
         return size > max(MOST_MEMORY if is_current else MOST_AT_WORK, 2 * self._needed)
+
+    def is_due(self, is_current: bool) -> bool:
+        """Whether it is to be started anew now, though nothing is edited. is_current: nothing is pending."""
+        if is_current:
+            self._given_up = 0
+            return self.has_grown(is_current)
+        if self.size <= max(MOST_AT_ALL, 2 * self._needed, 2 * self._given_up):
+            return False
+        self._given_up = self.size
+        return True
 
     async def ask(self, sent: bytes) -> Reply:
         """Sends a command. Trouble: there is no program; Ended: it ended meanwhile."""
@@ -102,21 +116,31 @@ class Keeper:
         return await Program.begin(self.words, self._wake)
 
     async def anew(self, document: Document) -> None:
-        """Ends the program, and starts another one with a document."""
+        """Ends the program, and starts another one with a document. Before it has all of that, the one from before
+        stays what is shown and saved.
+        """
         await self.end()
         program = await self.begin()
         if self.is_closed:
             await program.end()
             raise Trouble("the experiment is closed")
-        self.take(program, Document())
-        for step in difference(Document(), document):
-            await self._do(step)
+        self._take(program, Names())
+        try:
+            for step in difference(Document(), document):
+                await self._do(step)
+        except Refused:
+            await program.end()  # nobody is to take it for one that has a document
+            raise
         self.document = document
         self._wake()
 
     def take(self, program: Program, document: Document) -> None:
         """Takes a running program that has a document, whose ids are the program's own."""
-        self.program, self.names, self.document = program, Names.of(document), document
+        self._take(program, Names.of(document))
+        self.document = document
+
+    def _take(self, program: Program, names: Names) -> None:
+        self.program, self.names = program, names
         self.started += 1
         self._needed = 0
         self.is_lost = False
@@ -144,7 +168,9 @@ class Keeper:
             await self._again(ended, old, old)
             if new is not old:
                 raise Trouble(f"{ended}; the edit wasn't done") from ended
-        except Refused:
+        except Refused as refused:
+            if new is old:
+                return await self._give_up(old, f"{why}, and couldn't be started again: {refused}", new)
             await self.anew(old)
             raise
         except Trouble as trouble:

@@ -195,7 +195,7 @@ class Session:
                 news = False
             if news or is_new:
                 self._tell_state()
-            if not self.pending and self.keeper.has_grown(is_current=True):
+            if self.keeper.is_due(is_current=not self.pending):
                 await self._renew()
             await self.views.deliver()
             pause = SOON if news or is_new else GIVEN_UP if self._is_given_up else min(2 * pause, SELDOM)

@@ -1,0 +1,13 @@
+"""A soak: random use of the program for hours, part by part. It runs by
+
+    python3 -m soak HOURS
+
+where `testing` is on the path; `./soak.sh` sees to that. The parts are what hostile/, model/ and the tests of the page
+have, with seeds that go on from run to run.
+"""
+import sys
+from pathlib import Path
+
+ROOT = Path(__file__).resolve().parents[2]
+for _place in ("hostile", "model", "clients/python/src", "clients/python/tests"):
+    sys.path.append(str(ROOT / _place))
