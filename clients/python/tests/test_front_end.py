@@ -17,6 +17,8 @@ EDITS, FARTHEST, MOST = 200, 120, 6
 VIEWS = ("counts", "counts", "rle", "mc", Window(-12, -12, 30, 30))
 # A call that waits for no worker takes some milliseconds. On a busy machine it may be put off for long.
 MOST_SECONDS = 1
+# There few texts are known so soon, and it goes on for so long at most until there are enough.
+MORE_SECONDS = 60
 
 
 class FrontEnd:
@@ -70,6 +72,10 @@ class FrontEnd:
                 self.pending += found is None
                 shown.update({it.id: found} if found is not None else {})
 
+    def shown(self):
+        """How many texts it was shown."""
+        return sum(len(shown) for _, shown in self.moments)
+
 
 class FrontEndTest(unittest.TestCase):
     def test_what_is_shown_is_what_a_fresh_run_shows(self):
@@ -80,6 +86,10 @@ class FrontEndTest(unittest.TestCase):
                 for _ in range(EDITS):
                     front.edit()
                     front.look(chance.choice((0, 0.001, 0.01, 0.04)))
+                until = time.monotonic() + MORE_SECONDS
+                while front.shown() <= EDITS and time.monotonic() < until:
+                    front.edit()
+                    front.look(0.2)
                 self.assertEqual(desk.settle(timeout=60), Settling(0, 0))
                 front.look(0.001)
                 self.assertEqual(desk.poll(), Polling(0))
