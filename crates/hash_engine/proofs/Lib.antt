@@ -5,3 +5,5 @@ pub mod Making
 pub mod Computing
 pub mod ByBlocks
 pub mod Names
+pub mod SmallRows
+pub mod BySmall

@@ -5,22 +5,12 @@ use Rattle.square_table.specs.declared.square.Square.{Square}
 use Rattle.square_table.specs.Squares.{Table, IsHeld, level_of, cells_of}
 use Rattle.square_table.specs.Made.{IsFull}
 use Rattle.square_table.specs.declared.fault.TableFault.TheVariants.{NoRoom}
+pub use Rattle.bit_blocks.specs.Answers.{IsSameRule, KeepsRule}
 use Rattle.hash_life_laws.specs.Result.{result}
 use Rattle.hash_life_laws.specs.Puts.{IsBelow}
 use Rattle.hash_engine.specs.Memo.{IsRightMemo}
 use Rattle.hash_engine.specs.declared.memo.Memo.{Memo}
 use Rattle.hash_engine.specs.declared.fault.ResultFault.{ResultFault}
-
--- a rule means the same as before
-pub record IsSameRule (old_meaning new_meaning : List ℕ → ℕ) (old_count new_count : ℕ)
-    : Type 0 where
-  pub meaning : new_meaning ≡ old_meaning
-  pub states : new_count ≡ old_count
-
--- a rule at one moment and at a later one means the same
-abbrev pub KeepsRule : {R : Type 0} → (R → List ℕ → ℕ) → (R → ℕ) → R → R → Type 0
-KeepsRule meaning states old new =
-    IsSameRule (meaning old) (meaning new) (states old) (states new)
 
 -- a square of the table whose result can be asked for: it has at least 4 by 4 cells, and their
 -- states are the rule's

@@ -5,3 +5,4 @@ pub mod Memo
 pub mod Found
 pub mod Asked
 pub mod Search
+pub mod Small

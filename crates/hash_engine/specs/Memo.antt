@@ -1,5 +1,5 @@
 -- What is remembered.
-use Rattle.std.specs.Prelude.{◌≡◌, ◌≢◌, ℕ, suc, ◌+◌, ◌-◌, ◌^◌, ◌<◌, ◌≤◌, List, get_or, replicate, false}
+use Rattle.std.specs.Prelude.{◌≡◌, ◌≢◌, ℕ, suc, ◌+◌, ◌-◌, ◌^◌, ◌<◌, ◌≤◌, List, get_or, replicate, true, false, IfSome}
 use Rattle.worlds.specs.Square.{Square}
 use Rattle.square_table.specs.Squares.{Table, IsNumber, square_in, first_number}
 use Rattle.square_table.specs.Made.{IsMade}
@@ -8,6 +8,8 @@ use Rattle.hash_life_laws.specs.Puts.{Puts}
 use Rattle.hash_life_laws.specs.Makes.{Makes}
 use Rattle.hash_engine.specs.Standing.{StandsFor}
 use Rattle.hash_engine.specs.Blocks.{IsLaterOf, IsKnownBlock, AreKnownBlocks}
+use Rattle.bit_blocks.specs.Answers.{AreRight}
+use Rattle.hash_engine.specs.Small.{BeginsWithSmall}
 use Rattle.hash_engine.specs.declared.block.Block.{Block}
 use Rattle.hash_engine.specs.declared.memo.Memo.{Memo}
 
@@ -25,11 +27,15 @@ pub record AreKnown (next : List ℕ → ℕ) (count : ℕ → ℕ) (rows : List
   pub right : (i : ℕ) → 0 < get_or known i 0 →
       (k : ℕ) × IsResult next rows k (count k) (first_number + i) (get_or known i 0)
 
--- each result that is remembered is right: those by the full counts are the table's notes
+-- each result that is remembered is right: those by the full counts are the table's notes; and the
+-- table begins with the small squares, if that is noted, and what is kept of the rule's answers for
+-- them is right
 pub record IsRightMemo (next : List ℕ → ℕ) (t : Table) (memo : Memo) : Type 0 where
   pub full : AreKnown next (λ k. 2 ^ k) t.rows t.notes
   pub part : AreKnown next (λ k. get_or memo.counts k 0) t.rows memo.part.items
   pub blocks : AreKnownBlocks next t.rows memo.blocks.list.items
+  pub small : memo.has_small ≡ true → BeginsWithSmall t.rows
+  pub answers : IfSome memo.answers (AreRight next)
 
 -- the square is one of 4 by 4 cells that was put to the rule: its result by the full count is known
 pub record IsPut (rows : List (List ℕ)) (full : List ℕ) (s : Square) : Type 0 where
@@ -149,3 +155,17 @@ StaysPutFor old new = (next : List ℕ → ℕ) (t : Table) →
 abbrev pub StaysMadeFor : Memo → Memo → Type 0
 StaysMadeFor old new = (next : List ℕ → ℕ) (t : Table) →
     HasMade next t old → HasMade next t new
+
+-- what was right under the rule is right still
+abbrev pub StaysRightUnder : (List ℕ → ℕ) → Memo → Memo → Type 0
+StaysRightUnder next old new = (t : Table) → IsRightMemo next t old → IsRightMemo next t new
+
+-- what was right for one table is right for any other in which nothing is noted
+abbrev pub ClearsFor : Memo → Memo → Type 0
+ClearsFor old new = (next : List ℕ → ℕ) (t u : Table) →
+    IsRightMemo next t old → HasNoFull u → IsRightMemo next u new
+
+-- whatever it was right for, it is right for still where the table begins with the small squares
+abbrev pub TurnsSmall : Memo → Memo → Type 0
+TurnsSmall old new = (next : List ℕ → ℕ) (t : Table) →
+    IsRightMemo next t old → BeginsWithSmall t.rows → IsRightMemo next t new

@@ -1,7 +1,7 @@
 -- Numbers that stand for squares.
 use Rattle.std.specs.Prelude.{◌≡◌, ℕ, suc, ◌<◌, List, length, get_or}
 use Rattle.worlds.specs.Square as squares
-use Rattle.worlds.specs.Square.{one, four}
+pub use Rattle.bit_blocks.specs.Numbers.{of_four}
 use Rattle.square_table.specs.Squares.{IsNumber, AreNumbers, square_in, square_of}
 use Rattle.hash_life_laws.specs.Puts.{Puts, IsBelow}
 
@@ -16,11 +16,6 @@ pub record StandForAll (rows : List (List ℕ)) (k : ℕ) (ns : List ℕ) (ss : 
   pub count : length ns ≡ length ss
   pub each : (j d : ℕ) (e : squares.Square) → j < length ns →
       StandsFor rows k (get_or ns j d) (get_or ss j e)
-
--- four states as a square
-abbrev pub of_four : List ℕ → squares.Square
-of_four ss =
-    four (one (get_or ss 0 0)) (one (get_or ss 1 0)) (one (get_or ss 2 0)) (one (get_or ss 3 0))
 
 -- n is the number of a square of level k + 2, and each that is put to the rule on the way to its
 -- result has states of the rule

@@ -11,6 +11,7 @@ use crate::eight::eight;
 use crate::fault::ResultFault;
 use crate::memo::{Memo, full};
 use crate::parts;
+use crate::sixteen::sixteen;
 use square_table::{Square, SquareTable, TableFault};
 use worlds::{Ask, Stop};
 
@@ -90,6 +91,38 @@ pub fn forward<Q: Ask, S: Stop>(
 #[cycle(forward)]
 #[inline(never)]
 fn compute<Q: Ask, S: Stop>(
+    table: &mut SquareTable<'_>,
+    memo: &mut Memo,
+    rule: &mut Q,
+    stop: &mut S,
+    k: u8,
+    ahead: u64,
+    number: u32,
+) -> Result<u32, ResultFault>
+    requires { CanCompute (Q.meaning rule.old) (Q.state_count rule.old)
+        table.old memo.old k ahead number }
+    ensures keeps { KeepsFor Q.meaning Q.state_count rule.old rule.new k ahead number
+        table.old table.new memo.new }
+    ensures end { IsEnd table.new (S.yes_count stop.old) (S.yes_count stop.new) result }
+    ensures found { IfOk result (FindsFor (Q.meaning rule.old) k ahead number
+        table.old memo.old table.new) }
+    ensures asks { OnOk result (AsksFor Q.meaning Q.asks k ahead number
+        rule.old table.old memo.old rule.new table.new memo.new) }
+    ensures made { OnOk result (MakesFor (Q.meaning rule.old) k ahead number
+        table.old memo.old table.new memo.new) }
+{
+    if k == 2 && ahead == 4 && memo.is_lean() && memo.has_small() {
+        if let Some(made) = sixteen(table, memo, rule, number)? {
+            return Ok(made);
+        }
+    }
+    by_parts(table, memo, rule, stop, k, ahead, number)
+}
+
+// The same by the results of smaller squares.
+#[cycle(forward)]
+#[inline(never)]
+fn by_parts<Q: Ask, S: Stop>(
     table: &mut SquareTable<'_>,
     memo: &mut Memo,
     rule: &mut Q,

@@ -14,6 +14,10 @@
 //! of 4 by 4 cells between those of a square of 8 by 8 are known by their quadrants alone, and where no
 //! generation is left the middles of four squares are joined without these. `forward` is the recursion
 //! of both this and `counted_engine`, which makes all of these squares.
+//!
+//! Where a table begins with the small squares, which are those of 2 by 2 and of 4 by 4 cells of states 0
+//! and 1, `search` finds the result of a square of 16 by 16 cells four generations later by `bit_blocks`,
+//! and makes no square between. Then the rule is asked once for each small square of 4 by 4 cells.
 #![tactic(auto)]
 
 mod asking;
@@ -23,8 +27,11 @@ mod fault;
 mod later;
 mod memo;
 mod parts;
+mod sixteen;
+mod small;
 
 pub use asking::Asking;
 pub use fault::ResultFault;
 pub use later::{forward, search};
 pub use memo::Memo;
+pub use small::{SMALL_SQUARES, lay_small};

@@ -1,12 +1,17 @@
 //! What is remembered of a computation: the results by the numbers of their squares.
 
-ghost use Rattle.std.specs.Prelude.{◌≡◌, ◌+◌, ◌-◌, ◌^◌, ◌<◌, ◌≤◌, ℕ, List, length, get_or, IfSome, IfNone, OnOk, OnErr};
+ghost use Rattle.std.specs.Prelude.{◌≡◌, ◌+◌, ◌-◌, ◌^◌, ◌<◌, ◌≤◌, ℕ, List, false, length, get_or, IfSome, IfNone, OnOk, OnErr};
 ghost use Rattle.square_table.specs.Squares.{Table, first_number};
-ghost use Rattle.hash_engine.specs.Memo.{IsRightMemo, IsNoted, IsRemembered, KeepsRows, HasNoFull, HasPut, HasMade, RecallsResult, RecallsPut, RecallsMade, RecallsBlock, StaysRight, StaysRightWith, StaysRightFor, StaysPutFor, StaysMadeFor};
+ghost use Rattle.hash_life_laws.specs.Result as life;
+ghost use Rattle.bit_blocks.specs.Answers.{KeepsRule};
+ghost use Rattle.bit_blocks.specs.Numbers.{eight_of, sixteen_of};
+ghost use Rattle.hash_engine.specs.Memo.{ClearsFor, TurnsSmall, StaysRightUnder, IsRightMemo, IsNoted, IsRemembered, KeepsRows, HasNoFull, HasPut, HasMade, RecallsResult, RecallsPut, RecallsMade, RecallsBlock, StaysRight, StaysRightWith, StaysRightFor, StaysPutFor, StaysMadeFor};
 
 use crate::block::{Block, Blocks};
+use bit_blocks::{Answers, four_later};
 use square_table::SquareTable;
 use std::alloc::{AllocError, Global};
+use worlds::Ask;
 
 // Below it numbers are those of cells.
 const FIRST_NUMBER: u32 = 256;
@@ -29,6 +34,10 @@ pub struct Memo {
     // squares of the table then.
     is_lean: bool,
     blocks: Blocks,
+    // Whether the table begins with the small squares, and what the rule answers for them.
+    has_small: bool,
+    answers: Option<Answers>,
+    alloc: Global,
     // The other count, by k, and the generations that decide it.
     counts: [u64; 62],
     generations: u64,
@@ -41,6 +50,9 @@ impl Drop for Memo {
             part: _,
             is_lean: _,
             blocks: _,
+            has_small: _,
+            answers: _,
+            alloc: _,
             counts: _,
             generations: _,
         } = self;
@@ -119,18 +131,38 @@ impl Memo {
             part: Vec::new(alloc),
             is_lean: false,
             blocks: Blocks::nothing(alloc),
+            has_small: false,
+            answers: None,
+            alloc,
             counts: [0; 62],
             generations: 0,
         }
     }
 
-    /// Gives up all results but the table's, and keeps their memory.
+    /// Gives up all results but the table's, and keeps their memory. The table may be another one.
     #[tactic(auto, using(crate::proofs::Shared::Memos::no_full))]
     pub fn clear(&mut self)
-        ensures { (next : List ℕ → ℕ) (t : Table) → HasNoFull t → IsRightMemo next t self.new }
+        ensures right { ClearsFor self.old self.new }
+        ensures small { self.new.has_small ≡ false }
     {
         Vec::clear(&mut self.part);
         self.blocks.clear();
+        self.has_small = false;
+    }
+
+    /// Notes that the table begins with the small squares. What the rule answered for them before is
+    /// known still.
+    pub fn turn_small(&mut self)
+        ensures { TurnsSmall self.old self.new }
+    {
+        self.has_small = true;
+    }
+
+    /// Whether that is noted.
+    pub fn has_small(&self) -> bool
+        ensures { result ≡ self.now.has_small }
+    {
+        self.has_small
     }
 
     /// From now on a search makes no square that it doesn't need.
@@ -145,6 +177,32 @@ impl Memo {
         ensures { result ≡ self.now.is_lean }
     {
         self.is_lean
+    }
+
+    // Makes a list of the rule's answers, where there is none and there is memory for one.
+    fn make_answers(&mut self)
+        ensures { StaysRightFor self.old self.new }
+    {
+        if self.answers.is_none() {
+            self.answers = Answers::nothing(self.alloc).ok();
+        }
+    }
+
+    /// The middle of a square of 16 by 16 cells four generations later, each by its blocks, where there
+    /// is memory for the rule's answers and no cell on the way has a state above 1.
+    pub(crate) fn later_by_blocks<Q: Ask>(
+        &mut self,
+        rule: &mut Q,
+        blocks: [[u16; 4]; 4],
+    ) -> Option<[u16; 4]>
+        requires { (t : Table) × IsRightMemo (Q.meaning rule.old) t self.old }
+        ensures right { StaysRightUnder (Q.meaning rule.old) self.old self.new }
+        ensures rule { KeepsRule Q.meaning Q.state_count rule.old rule.new }
+        ensures later { IfSome result (λ r.
+            eight_of r ≡ life.result (Q.meaning rule.old) 2 4 (sixteen_of blocks)) }
+    {
+        self.make_answers();
+        four_later(self.answers.as_mut()?, rule, &blocks)
     }
 
     /// The result of a block one generation later, where it is known.

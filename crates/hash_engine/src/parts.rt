@@ -1,19 +1,19 @@
 //! Squares made of the quadrants of others.
 
 ghost use Rattle.std.specs.Prelude.{◌≡◌, ◌+◌, ℕ, suc, [], ◌∷◌, All, IfOk, Err};
-ghost use Rattle.worlds.specs.Square.{four};
 ghost use Rattle.square_table.specs.Squares.{IsNumber, AreNumbers, square_in, square_of, Grows, kids_at};
 ghost use Rattle.square_table.specs.Made.{Adds, IsFull};
 ghost use Rattle.hash_life_laws.specs.Result.{middle, later};
-ghost use Rattle.hash_life_laws.specs.Puts.{nine_of, IsBelow};
-ghost use Rattle.hash_engine.specs.Standing.{CanBePut, BlockCanBePut, of_four};
+ghost use Rattle.hash_life_laws.specs.Puts.{nine_of};
+ghost use Rattle.hash_engine.specs.Standing.{CanBePut, BlockCanBePut};
 ghost use Rattle.hash_engine.specs.Adding.{AddsOf, AddsFours, AddsJoined, AddsMiddle, AddsMiddles, AreMiddles, GivesOf, GiveAllOf, GiveFours, GiveJoined, GivesMiddle, GivesMiddles, GivesPut, GivesBlockPut};
 ghost use Rattle.hash_engine.specs.Blocks.{AreBlocks, GiveFourBlocks};
 ghost use Rattle.hash_engine.specs.Found.{KeepsRule};
 
 use crate::block::Block;
+use bit_blocks::ask_four;
 use square_table::{SquareTable, TableFault};
-use worlds::{Around, Ask};
+use worlds::Ask;
 
 /// The square of half the side in the middle.
 #[tactic(auto, unfolding(square_table::specs::Squares::IsNumber))]
@@ -191,27 +191,6 @@ fn states(table: &SquareTable<'_>, number: u32) -> [u8; 4]
 {
     let [nw, ne, sw, se] = table.quadrants(number);
     [nw as u8, ne as u8, sw as u8, se as u8]
-}
-
-// The four cells in the middle of four by four one generation later.
-fn ask_four<Q: Ask>(rule: &mut Q, nw: [u8; 4], ne: [u8; 4], sw: [u8; 4], se: [u8; 4]) -> [u8; 4]
-    requires { IsBelow (Q.state_count rule.old)
-        (four (of_four nw) (of_four ne) (of_four sw) (of_four se)) }
-    ensures states { of_four result ≡ later (Q.meaning rule.old)
-        (four (of_four nw) (of_four ne) (of_four sw) (of_four se)) }
-    ensures rule { KeepsRule Q.meaning Q.state_count rule.old rule.new }
-    ensures asks { Q.asks rule.new ≡ Q.asks rule.old + 4 }
-{
-    let [a, b, c, d] = nw;
-    let [e, f, g, h] = ne;
-    let [i, j, k, l] = sw;
-    let [m, n, o, p] = se;
-    [
-        rule.ask(&Around([d, b, e, g, m, j, i, c, a])),
-        rule.ask(&Around([g, e, f, h, n, m, j, d, b])),
-        rule.ask(&Around([j, d, g, m, o, l, k, i, c])),
-        rule.ask(&Around([m, g, h, n, p, o, l, j, d])),
-    ]
 }
 
 /// The four cells in the middle of a square of level 2 one generation later.

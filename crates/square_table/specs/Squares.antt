@@ -15,6 +15,10 @@ pub record Table : Type 0 where
   pub limit : ℕ
   pub notes : List ℕ
 
+-- no table may hold more: 2^24 squares, and the 65,552 of up to 4 by 4 cells of two states
+abbrev pub most_squares : ℕ
+most_squares = 16842768
+
 -- a table with no square
 abbrev pub no_squares : ℕ → Table
 no_squares limit = record { rows = []; limit = limit; notes = replicate limit 0 }

@@ -1,6 +1,6 @@
 //! Why a square isn't made.
 
-use basics::Refusal;
+use basics::{Reason, Refusal};
 use std::alloc::AllocError;
 use thiserror::Error;
 
@@ -25,22 +25,11 @@ impl Refusal for TableFault {
 
     ghost place_of = { λ _. None };
 
-    fn number(&self) -> u8 {
+    fn reason(&self) -> Reason {
         match self {
-            TableFault::NoMemory => 70,
-            TableFault::NoRoom => 71,
+            TableFault::NoMemory => Reason::of(70, "NoMemory"),
+            TableFault::NoRoom => Reason::of(71, "NoRoom"),
         }
-    }
-
-    fn name(&self) -> &'static str {
-        match self {
-            TableFault::NoMemory => "NoMemory",
-            TableFault::NoRoom => "NoRoom",
-        }
-    }
-
-    fn place(&self) -> Option<u64> {
-        None
     }
 }
 

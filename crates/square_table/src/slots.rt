@@ -8,7 +8,7 @@ ghost use Rattle.square_table.specs.Slots.{mark_of, side_by_side, tag_of, tag_in
 use crate::row::Row;
 use std::alloc::{AllocError, Global};
 
-// More slots than this aren't made: there are never more than half as many rows.
+// More slots than this aren't made: a table has no more than about half as many rows.
 const MOST_SLOTS: usize = 1 << 25;
 
 // The lower 25 bits of a slot are a row's.

@@ -2,7 +2,7 @@
 ghost use Rattle.std.specs.Prelude.{◌≡◌, ℕ, get_or, ◌+◌, ◌-◌, ◌^◌, ◌<◌, ◌≤◌, length, map, slice_index_or, vec_len, [], ◌∷◌, ◌++◌, IfOk, IfSome, IfNone, OnOk, OnErr, Err};
 ghost use Rattle.worlds.specs.Square.{one, empty_square};
 ghost use Rattle.square_table.specs.Slots.{FindsRows};
-ghost use Rattle.square_table.specs.Squares.{Table, no_squares, with_note, without_notes, IsNumber, IsHeld, IsSquareOf, Grows, GrowsBy, KeepsSquares, AreFour, IsJoined, Lacks, Tells, with_row, first_number, kids_at, level_of, number_of, AreDistinct};
+ghost use Rattle.square_table.specs.Squares.{Table, most_squares, no_squares, with_note, without_notes, IsNumber, IsHeld, IsSquareOf, Grows, GrowsBy, KeepsSquares, AreFour, IsJoined, Lacks, Tells, with_row, first_number, kids_at, level_of, number_of, AreDistinct};
 ghost use Rattle.square_table.specs.Made.{IsFull};
 ghost use Rattle.square_table.specs.Loading.{GrowsFrom};
 ghost use Rattle.square_table.specs.declared.square.Square.{Square};
@@ -63,13 +63,13 @@ impl<'a> Model for SquareTable<'a> {
     ghost use Rattle.std.specs.Prelude.{◌≤◌, length};
     ghost use Rattle.square_table.specs.Rows.{kids_of, notes_of};
     ghost use Rattle.square_table.specs.Slots.{FindsRows};
-    ghost use Rattle.square_table.specs.Squares.{Table, no_squares, with_note, without_notes, AreDistinct};
+    ghost use Rattle.square_table.specs.Squares.{Table, most_squares, no_squares, with_note, without_notes, AreDistinct};
 
     ghost Value = { Table };
 
     ghost view = { λ t. record { rows = kids_of t.rows.items; limit = t.limit; notes = notes_of t.rows.items t.limit } };
 
-    ghost invariant = { λ t. FindsRows (kids_of t.rows.items) (length t.rows.items) t.slots.items × AreDistinct (kids_of t.rows.items) × (length t.rows.items ≤ t.limit) × (t.limit ≤ 16777216) };
+    ghost invariant = { λ t. FindsRows (kids_of t.rows.items) (length t.rows.items) t.slots.items × AreDistinct (kids_of t.rows.items) × (length t.rows.items ≤ t.limit) × (t.limit ≤ most_squares) };
 }
 
 // Four numbers, placed in the arena for good.
@@ -94,9 +94,9 @@ fn numbers(four: &[Square<'_>; 4]) -> [u32; 4]
 }
 
 impl<'a> SquareTable<'a> {
-    /// A table with no square, that may hold up to `limit`, at most 16,777,216.
+    /// A table with no square, that may hold up to `limit`, at most 16,842,768.
     pub fn new(alloc: Global, arena: &'a Bump, limit: u32) -> Result<SquareTable<'a>, AllocError>
-        requires { limit ≤ 16777216 }
+        requires { limit ≤ most_squares }
         ensures { IfOk result (λ t. t ≡ no_squares limit) }
     {
         Ok(SquareTable {
@@ -157,7 +157,7 @@ impl<'a> SquareTable<'a> {
     /// How many squares it holds, cells not counted.
     pub fn len(&self) -> u32
         ensures count { result ≡ length self.now.rows }
-        ensures within { (result ≤ self.now.limit) × (self.now.limit ≤ 16777216) }
+        ensures within { (result ≤ self.now.limit) × (self.now.limit ≤ most_squares) }
         ensures distinct { AreDistinct self.now.rows }
     {
         self.rows.len() as u32

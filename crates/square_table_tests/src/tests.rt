@@ -134,8 +134,8 @@ fn a_row_has_no_room_for_a_number_that_no_square_has(rt: HostRuntime) {
 
 #[test]
 fn faults_have_numbers_and_names(rt: HostRuntime) {
-    assert_eq!(&rt; TableFault::NoRoom.number(), 71);
-    assert_eq!(&rt; TableFault::NoRoom.name(), "NoRoom");
-    assert_eq!(&rt; TableFault::NoMemory.number(), 70);
-    assert_eq!(&rt; TableFault::NoMemory.name(), "NoMemory");
+    assert_eq!(&rt; TableFault::NoRoom.reason().number, 71);
+    assert_eq!(&rt; TableFault::NoRoom.reason().name, "NoRoom");
+    assert_eq!(&rt; TableFault::NoMemory.reason().number, 70);
+    assert_eq!(&rt; TableFault::NoMemory.reason().name, "NoMemory");
 }

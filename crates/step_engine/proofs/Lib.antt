@@ -2,6 +2,8 @@ pub mod Boxes
 pub mod Reaching
 pub mod Centring
 pub mod Joins
+pub mod Small
+pub mod Caches
 pub mod Evolving
 pub mod Ways
 pub mod Shared

@@ -1,5 +1,5 @@
 -- All that is made on a way, as a list.
-use Rattle.step_engine.proofs.Names.{All, Contains, HasWay, List, Square, World, [], arith, cases_eq, edge, empty_square, four, min, one, square_at, subst, suc, sym, zero, ℕ, ◌-◌, ◌^◌, ◌∷◌, ◌≡◌, ◌≤◌}
+use Rattle.step_engine.proofs.Names.{Contains, HasWay, List, Square, World, [], arith, cases_eq, edge, empty_square, four, min, one, square_at, subst, suc, sym, zero, ℕ, ◌-◌, ◌^◌, ◌∷◌, ◌≡◌, ◌≤◌}
 use Rattle.std.proofs.Common.{⊎_elim}
 use Rattle.std.specs.Prelude.{◌++◌, flat_map, map}
 use Rattle.std.specs.List.{AllByRecursion as Each}

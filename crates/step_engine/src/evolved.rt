@@ -1,6 +1,6 @@
 //! Why an engine refuses.
 
-use basics::Refusal;
+use basics::{Reason, Refusal};
 use hash_engine::ResultFault;
 use square_table::TableFault;
 use std::alloc::AllocError;
@@ -30,24 +30,12 @@ impl Refusal for EvolveFault {
 
     ghost place_of = { λ _. None };
 
-    fn number(&self) -> u8 {
+    fn reason(&self) -> Reason {
         match self {
-            EvolveFault::NoMemory => 70,
-            EvolveFault::NoRoom => 71,
-            EvolveFault::Stopped => 72,
+            EvolveFault::NoMemory => Reason::of(70, "NoMemory"),
+            EvolveFault::NoRoom => Reason::of(71, "NoRoom"),
+            EvolveFault::Stopped => Reason::of(72, "Stopped"),
         }
-    }
-
-    fn name(&self) -> &'static str {
-        match self {
-            EvolveFault::NoMemory => "NoMemory",
-            EvolveFault::NoRoom => "NoRoom",
-            EvolveFault::Stopped => "Stopped",
-        }
-    }
-
-    fn place(&self) -> Option<u64> {
-        None
     }
 }
 

@@ -1,81 +1,29 @@
 //! An engine that keeps its squares and their results from one call to the next.
-ghost use Rattle.std.specs.Prelude.{◌≡◌, IfOk, IfSome, Err};
+ghost use Rattle.std.specs.Prelude.{◌≡◌, IfOk, Err};
 ghost use Rattle.worlds.specs.Iterate.{iterate};
 ghost use Rattle.worlds.specs.Step.{step};
 ghost use Rattle.worlds.specs.Stop.{CountsStop};
-ghost use Rattle.square_table.specs.Squares.{Table};
-ghost use Rattle.hash_engine.specs.Memo.{IsRightMemo};
 ghost use Rattle.step_engine.specs.Evolved.{CanEvolve, IsRoomSpent};
-ghost use Rattle.step_engine.specs.Kept.{IsPackedIn, StaysKept, SpendsNew};
-ghost use Rattle.step_engine.specs.Padded.{IsSquareOf};
 
 use crate::allowance::Allowance;
+use crate::cache::Cache;
 use crate::evolved::EvolveFault;
 use crate::pace::Leap;
-use crate::padding::rooted;
-use crate::room::{MOST_SQUARES, no_squares};
+use crate::room::MOST_SQUARES;
 use bumpalo::Bump;
-use hash_engine::{Asking, Memo, search};
-use plane_core::{Ask, Next, Plane, Stop};
-use square_table::{Square, SquareTable};
+use hash_engine::Asking;
+use plane_core::{Next, Plane, Stop};
 use std::alloc::{AllocError, Global};
 use std::marker::Model;
 
-// A plane, and one of its squares round the origin.
-#[derive(Drop)]
-struct Packed<'a> {
-    plane: Plane,
-    square: Square<'a>,
-}
+// An engine that may hold fewer squares does without the small ones, which would be many beside them.
+const ROOM_FOR_SMALL: u32 = 1 << 18;
 
-// The square of a plane, where it is the one that was packed last.
-fn recalled<'a>(latest: Option<&Packed<'a>>, plane: &Plane) -> Option<Square<'a>>
-    ensures { (table : Table) → IfSome latest.entry (λ packed. IsPackedIn table packed.now) →
-        IfSome result (IsSquareOf table plane.now) }
-{
-    match latest {
-        Some(packed) if packed.plane.equals(plane) => Some(packed.square),
-        _ => None,
-    }
-}
+// So many squares take as long to make as the small ones, which a shorter way isn't worth.
+const MADE_BEFORE_SMALL: u32 = 1 << 14;
 
-// The plane `generations` later, in the squares of a table and by what is remembered of them. It is
-// noted as the latest with its square, so that an evolution that goes on from it needn't look for
-// the squares of its rows.
-fn pass<'a, Q: Ask, S: Stop>(
-    table: &mut SquareTable<'a>,
-    memo: &mut Memo,
-    latest: &mut Option<Packed<'a>>,
-    rule: &mut Q,
-    plane: &Plane,
-    generations: u64,
-    stop: &mut S,
-) -> Result<Plane, EvolveFault>
-    requires evolve { CanEvolve (Q.state_count rule.old) generations plane.now }
-    requires right { IsRightMemo (Q.meaning rule.old) table.old memo.old }
-    requires latest { IfSome latest.old (IsPackedIn table.old) }
-    ensures plane { IfOk result (λ later.
-        later ≡ iterate generations (step (Q.meaning rule.old)) plane.now) }
-    ensures stays { StaysKept (Q.meaning rule.old) table.old table.new memo.new }
-    ensures latest { IfSome latest.new (IsPackedIn table.new) }
-    ensures stop { CountsStop result (Err EvolveFault.Stopped)
-        (S.yes_count stop.old) (S.yes_count stop.new) }
-    ensures no_room { result ≡ Err EvolveFault.NoRoom →
-        SpendsNew (Q.meaning rule.old) plane.now generations table.old }
-{
-    let known = recalled(latest.as_ref(), plane);
-    *latest = None;
-    let root = rooted(table, known, plane, generations)?;
-    let found = search(table, memo, rule, root, generations, stop)?;
-    let later = table.pack(found)?;
-    if let Ok(plane) = later.copy() {
-        *latest = Some(Packed {
-            plane,
-            square: found,
-        });
-    }
-    Ok(later)
-}
+// A first pattern of so many live cells is likely to make more.
+const MANY_CELLS: u128 = 1 << 12;
 
 /// An engine for one rule, which keeps the squares of the planes that it evolved and their results:
 /// what an earlier call found isn't computed again. It keeps a copy of the plane that it gave last,
@@ -87,28 +35,31 @@ pub struct Engine<'a, R: Next> {
     alloc: Global,
     arena: &'a Bump,
     rule: &'a R,
-    limit: u32,
-    table: SquareTable<'a>,
-    memo: Memo,
-    latest: Option<Packed<'a>>,
+    cache: Cache<'a>,
     // How far a leap may go that begins the next way, 0 where none was made.
     pace: u64,
     allowance: Allowance,
+    // How many squares the leaps made, until they are as many as decide what a cache begins with.
+    made_in_all: u32,
 }
 
 impl<'a, R: Next> Model for Engine<'a, R> {
-    ghost use Rattle.step_engine.specs.Kept.{RuleEngine, IsKeptEngine};
+    ghost use Rattle.step_engine.specs.Kept.{RuleEngine, IsRightCache};
 
     ghost Value = { RuleEngine R };
 
-    ghost view = { λ e. record { rule = e.rule.now; limit = e.limit } };
+    ghost view = { λ e. record { rule = e.rule.now; limit = e.cache.limit } };
 
-    ghost invariant = { λ e. IsKeptEngine (R.meaning e.rule.now) e.limit e.table e.memo e.latest };
+    ghost invariant = { λ e. IsRightCache (R.meaning e.rule.now) e.cache };
 }
 
 impl<'a, R: Next> Engine<'a, R> {
-    /// An engine that has no square yet, and may hold up to `limit`, at most 16,777,216. The arena,
-    /// which is made before it, holds some bytes of each call.
+    /// An engine that evolved nothing yet, and may hold up to `limit` squares, at most 16,777,216. The
+    /// arena, which is made before it, holds some bytes of each call.
+    ///
+    /// Under a rule of two states, and with a limit of at least 262,144, it begins anew with the 65,552
+    /// squares of up to 4 by 4 cells once it made many, or where a first pattern is large, if there is
+    /// memory for them. These are held beside the limit.
     pub fn new(
         alloc: Global,
         arena: &'a Bump,
@@ -117,16 +68,15 @@ impl<'a, R: Next> Engine<'a, R> {
     ) -> Result<Engine<'a, R>, AllocError>
         ensures { IfOk result (λ engine. engine ≡ record { rule = rule.now; limit = limit }) }
     {
+        let cache = Cache::new(alloc, arena, limit, false)?;
         Ok(Engine {
             alloc,
             arena,
             rule,
-            limit,
-            table: no_squares(alloc, arena, limit)?,
-            memo: Memo::nothing(alloc),
-            latest: None,
+            cache,
             pace: 0,
             allowance: Allowance::new(),
+            made_in_all: 0,
         })
     }
 
@@ -141,7 +91,7 @@ impl<'a, R: Next> Engine<'a, R> {
     pub fn limit(&self) -> u32
         ensures { result ≡ self.now.limit }
     {
-        self.limit
+        self.cache.limit()
     }
 
     /// The plane `generations` later under the engine's rule, whatever the engine evolved before.
@@ -167,31 +117,17 @@ impl<'a, R: Next> Engine<'a, R> {
         ensures no_room { result ≡ Err EvolveFault.NoRoom →
             IsRoomSpent self.old.limit (R.meaning self.old.rule) plane.now generations }
     {
-        let was_new = self.table.len() == 0;
-        let found = pass(
-            &mut self.table,
-            &mut self.memo,
-            &mut self.latest,
-            &mut Asking::new(self.rule),
-            plane,
-            generations,
-            stop,
-        );
+        let was_new = self.cache.squares() == 0;
+        let rule = self.rule;
+        let found = self
+            .cache
+            .pass(&mut Asking::new(rule), plane, generations, stop);
         if was_new || !matches!(&found, Err(EvolveFault::NoRoom)) {
             return found;
         }
-        self.latest = None;
-        self.table = no_squares(self.alloc, self.arena, self.limit)?;
-        self.memo = Memo::nothing(self.alloc);
-        pass(
-            &mut self.table,
-            &mut self.memo,
-            &mut self.latest,
-            &mut Asking::new(self.rule),
-            plane,
-            generations,
-            stop,
-        )
+        self.cache = self.cache.anew(self.alloc, self.arena)?;
+        self.cache
+            .pass(&mut Asking::new(rule), plane, generations, stop)
     }
 
     /// The plane `generations` later, as `evolve` gives it. All squares are given up before, where they
@@ -211,38 +147,63 @@ impl<'a, R: Next> Engine<'a, R> {
         ensures no_room { result ≡ Err EvolveFault.NoRoom →
             IsRoomSpent self.old.limit (R.meaning self.old.rule) plane.now generations }
     {
+        self.turn_small(plane);
         let most = self.most();
-        if self.allowance.is_spent(self.table.len(), generations, most) {
+        let squares = self.squares();
+        if self.allowance.is_spent(squares, generations, most) {
             self.give_up();
         }
-        let before = self.table.len();
+        let before = self.squares();
         let found = self.evolve(plane, generations, stop);
         self.note_leap(plane, generations, before);
         found
+    }
+
+    // Begins anew with the small squares, where that is worth it by what was made, or at first by the
+    // pattern.
+    fn turn_small(&mut self, plane: &Plane)
+        ensures { self.new ≡ self.old }
+    {
+        let is_large = self.squares() == 0 && plane.population() >= MANY_CELLS;
+        if self.made_in_all < MADE_BEFORE_SMALL && !is_large {
+            return;
+        }
+        self.made_in_all = 0;
+        let is_worth = self.rule.states() == 2 && self.cache.limit() >= ROOM_FOR_SMALL;
+        if is_worth
+            && !self.cache.is_small()
+            && let Ok(cache) = Cache::new(self.alloc, self.arena, self.cache.limit(), true)
+        {
+            self.cache = cache;
+        }
     }
 
     // Gives all squares and results up.
     fn give_up(&mut self)
         ensures { self.new ≡ self.old }
     {
-        self.latest = None;
-        self.table.clear();
-        self.memo.clear();
+        self.cache.clear();
+    }
+
+    // How many squares it holds beside those with which it began.
+    fn squares(&self) -> u32 {
+        self.cache.squares()
     }
 
     // Notes a leap, before which there were so many squares, unless they were given up.
     fn note_leap(&mut self, plane: &Plane, count: u64, before: u32)
         ensures { self.new ≡ self.old }
     {
-        let after = self.table.len();
+        let after = self.squares();
         let made = after.checked_sub(before).unwrap_or(after);
         let most = self.most();
+        self.made_in_all = self.made_in_all.saturating_add(made);
         self.allowance.note(plane, Leap { count, made }, most);
     }
 
     // How many squares there may be.
     fn most(&self) -> u32 {
-        self.limit.min(MOST_SQUARES)
+        self.cache.limit().min(MOST_SQUARES)
     }
 
     /// How many squares the leap before made.

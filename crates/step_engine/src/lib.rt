@@ -5,10 +5,13 @@
 //! Regularities in Large Cellular Spaces, Physica 10D, 1984), and packs it as a plane. What is the
 //! same in space or time is computed once, so that a pattern may be carried 2^60 generations ahead.
 //! It keeps the squares and their results from one call to the next, and goes in leaps as long as the
-//! room for squares allows.
+//! room for squares allows. Under a rule of two states a table begins with the small squares, by which
+//! the least steps are looked up, once as many squares were made as they cost, or where the pattern is
+//! large.
 #![tactic(auto)]
 
 mod allowance;
+mod cache;
 mod evolved;
 mod kept;
 mod laws;

@@ -1,3 +1,4 @@
+mod begun;
 mod edges;
 mod faults;
 mod kept;

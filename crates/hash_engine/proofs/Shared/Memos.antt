@@ -4,7 +4,8 @@ use Rattle.square_table.specs.Squares.{Table, IsNumber, first_number, Grows}
 use Rattle.square_table.proofs.Shared.Growth.{IsNumber-grows, square_in-grows, AreNumbers-grows, square_of-grows}
 use Rattle.square_table.proofs.Shared.Numbers.{one_level}
 use Rattle.hash_engine.specs.Memo.{IsResult, AreKnown, IsRightMemo, IsRemembered, HasNoFull}
-use Rattle.hash_engine.specs.Blocks.{IsLaterOf}
+use Rattle.hash_engine.specs.Blocks.{AreKnownBlocks, IsLaterOf}
+use Rattle.hash_engine.proofs.SmallRows.{begins-grows}
 use Rattle.hash_engine.specs.declared.memo.Memo.{Memo}
 use Rattle.hash_engine.proofs.Standing.{StandsFor-grows, within}
 use Rattle.std.specs.Prelude.{◌≢◌, true, false}
@@ -38,7 +39,8 @@ pub IsRight-grows : (next : List ℕ → ℕ) (t u : Table) (memo : Memo) → Gr
 IsRight-grows next t u memo grows same right =
     let full = subst (AreKnown next (λ k. 2 ^ k) u.rows) (sym same) (AreKnown-grows next (λ k. 2 ^ k) t u t.notes grows right.full) in
     let part = AreKnown-grows next (λ k. get_or memo.counts k 0) t u memo.part.items grows right.part in
-    record { full = full; part = part; blocks = record { each = λ i some. IsLaterOf-grows next t u _ _ grows (right.blocks.each i some) } }
+    let blocks : AreKnownBlocks next u.rows memo.blocks.list.items = record { each = λ i some. IsLaterOf-grows next t u _ _ grows (right.blocks.each i some) } in
+    record { full = full; part = part; blocks = blocks; small = λ on. begins-grows t u grows (right.small on); answers = right.answers }
 
 -- what stands at a square's place is its result
 pub recalled : (next : List ℕ → ℕ) (count : ℕ → ℕ) (rows : List (List ℕ)) (known : List ℕ) (k generations n r : ℕ) → generations ≡ count k → first_number ≤ n → 0 < r →

@@ -32,7 +32,7 @@ alike : (rows : List (List ℕ)) (s t : Square) (a : IsMade rows s) (b : IsMade 
 alike rows s t a b same = grind (arith, one_level rows (suc a.level) (suc b.level) b.number)
 
 -- and those of different rows differ
-apart : (rows : List (List ℕ)) → AreDistinct rows → (n : ℕ) (s : Square) (here : IsMade rows s) → here.number ≡ first_number + n → (t : Square) → IsBefore rows n t → s ≢ t
+pub apart : (rows : List (List ℕ)) → AreDistinct rows → (n : ℕ) (s : Square) (here : IsMade rows s) → here.number ≡ first_number + n → (t : Square) → IsBefore rows n t → s ≢ t
 apart rows distinct n s here at t is same =
     let level = same_level rows (suc here.level) (suc is.0.level) here.number is.0.number here.numbered is.0.numbered (here.square ∙ same ∙ sym is.0.square) in
     grind (arith, one_number rows distinct (suc is.0.level) here.number is.0.number)

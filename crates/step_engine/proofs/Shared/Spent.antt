@@ -1,17 +1,19 @@
 -- What an engine made on its way, from what its table grew by.
 use Rattle.step_engine.proofs.Names.{AddsRound, AddsStart, AllBelow, AreAmong, Grows-then, GrowsFor, HasMargin, HasRoomFor, HasWay, IsCentred, IsFull, IsRoomLevel}
-use Rattle.step_engine.proofs.Names.{IsRootLevel, IsRooted, IsWidened, List, Table, World, ap, arith, cells_of, edge, ints, iterate, level_of, min, nine_zeros, square_at}
+use Rattle.step_engine.proofs.Names.{IsRootLevel, IsRooted, IsWidened, List, Table, World, ap, arith, cells_of, edge, ints, iterate, length, level_of, min, nine_zeros, square_at}
 use Rattle.step_engine.proofs.Names.{step, suc, sym, ℕ, ◌+◌, ◌-◌, ◌^◌, ◌∙◌, ◌≡◌, ◌≤◌}
 use Rattle.worlds.specs.Square as squares
 use Rattle.plane_core.specs.Rows.{Fits}
 use Rattle.square_table.specs.declared.square.Square.{Square}
 use Rattle.hash_engine.specs.Adding.{GrowsOnWay}
 use Rattle.hash_engine.specs.Found.{CanBeAsked, IsLater}
-use Rattle.step_engine.specs.Kept.{SpendsNew}
 use Rattle.step_engine.proofs.Reaching.{LiesWithin-more, LiesWithin-iterate}
 use Rattle.step_engine.proofs.Centring.{edge-suc, IsCentred-result}
 use Rattle.step_engine.proofs.Evolving.{IsBelow-centred, HasMargin-later}
-use Rattle.step_engine.proofs.Shared.Held.{held_many}
+use Rattle.std.specs.Prelude.{◌++◌}
+use Rattle.step_engine.specs.Evolved.{IsRoomSpent}
+use Rattle.step_engine.specs.Kept.{AreSquares}
+use Rattle.step_engine.proofs.Shared.Beside.{beside_many, own, way-more}
 
 -- the square with room holds the live cells
 room-fits : (n k : ℕ) (w : World) → HasRoomFor n k w → Fits (suc (suc k)) w
@@ -74,12 +76,18 @@ pub later-world : (next : List ℕ → ℕ) → next nine_zeros ≡ 0 → {w : W
     → (x : World) × HasMargin 0 x × IsCentred x (level_of square) (cells_of v square)
 later-world next quiet {w} {n} fits is later = (iterate n (step next) w, HasMargin-later 0 n n next w quiet (omega arith) fits, root-later next quiet is later)
 
+-- if each row of the table is that of a square, and it may hold as many others as an engine, the way to the world n generations later has as
+-- many different ones as that
+abbrev pub SpendsBeside : (List ℕ → ℕ) → World → ℕ → Table → Type 0
+SpendsBeside next w n t = (limit : ℕ) → AreSquares (length t.rows) t.rows → min limit 16777216 + length t.rows ≤ t.limit → IsRoomSpent limit next w n
+
 -- a table that was full before a search has as many different squares as it may
-pub start-spent : {next : List ℕ → ℕ} {w : World} {n : ℕ} {t u : Table} → AddsStart w n t u → IsFull u → SpendsNew next w n t
-start-spent {u = u} adds full limit none most = record {
+pub start-spent : {next : List ℕ → ℕ} {w : World} {n : ℕ} {t u : Table} → AddsStart w n t u → IsFull u → SpendsBeside next w n t
+start-spent {t = t} {u = u} adds full limit are most = record {
   k = adds.k;
   root = adds.root;
-  made = λ all way. held_many all u.rows full.distinct (adds.among all way.start (grind arith)) (min limit 16777216) (grind (arith, adds.grows.limit, full.count));
+  made = λ all way.
+      beside_many adds.grows full.distinct are all (λ among. adds.among (all ++ (own are).squares) (way-more all (own are).squares way).start among) (min limit 16777216) (omega (arith, most, adds.grows.limit, full.count));
 }
 
 module _ {w : World} {n : ℕ} {t u : Table} {root : Square} (adds : AddsStart w n t u) (rooted : IsRooted w n u root) where
@@ -100,9 +108,11 @@ module _ {w : World} {n : ℕ} {t u : Table} {root : Square} (adds : AddsStart w
   searching grows all way are = grows.among all (let made = way.way in grind (arith, high, whole)) (adds.among all way.start are)
 
   -- one that was filled by it
-  pub search-spent : {next : List ℕ → ℕ} {v : Table} → GrowsOnWay next n u root v → IsFull v → SpendsNew next w n t
-  search-spent {v = v} grows full limit none most = record {
+  pub search-spent : {next : List ℕ → ℕ} {v : Table} → GrowsOnWay next n u root v → IsFull v → SpendsBeside next w n t
+  search-spent {v = v} grows full limit are most = record {
     k = adds.k;
     root = adds.root;
-    made = λ all way. held_many all v.rows full.distinct (searching grows all way (grind arith)) (min limit 16777216) (grind (arith, adds.grows.limit, grows.grows.limit, full.count));
+    made = λ all way.
+        beside_many (Grows-then t u v adds.grows grows.grows) full.distinct are all (λ among. searching grows (all ++ (own are).squares) (way-more all (own are).squares way) among) (min limit 16777216)
+        (omega (arith, most, adds.grows.limit, grows.grows.limit, full.count));
   }

@@ -14,9 +14,9 @@ fn expect_says(
     text: &str,
 ) {
     let said = fault.to_string(alloc).expect(rt, "memory");
-    same(rt, &fault.number(), &number, &name);
-    same(rt, &fault.name(), &name, &number);
-    same(rt, &fault.place(), &None, &name);
+    same(rt, &fault.reason().number, &number, &name);
+    same(rt, &fault.reason().name, &name, &number);
+    same(rt, &fault.reason().place, &None, &name);
     same(rt, &said.as_str(), &text, &name);
 }
 

@@ -12,13 +12,13 @@ const SEQUENCES: u64 = 100;
 
 /// Numbers without order that are the same in each run, by a linear congruence.
 #[derive(Drop)]
-struct Dice {
-    state: u64,
+pub struct Dice {
+    pub state: u64,
 }
 
 impl Dice {
     /// One of the 256 numbers below 256.
-    fn throw(&mut self) -> u8 {
+    pub fn throw(&mut self) -> u8 {
         self.state = self
             .state
             .wrapping_mul(6364136223846793005)

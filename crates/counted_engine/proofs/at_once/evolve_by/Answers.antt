@@ -1,5 +1,6 @@
-use Rattle.counted_engine.proofs.Names.{Err, Table, ap, arith, one_world, refl, rules, ◌∙◌, ◌≤◌}
+use Rattle.counted_engine.proofs.Names.{Err, Table, ap, arith, length, one_world, refl, rules, ◌∙◌, ◌≤◌}
 use Rattle.step_engine.proofs.Shared.Spent.{root-for, root-asked, root-later, later-world, searching, start-spent, search-spent}
+use Rattle.step_engine.proofs.Shared.Beside.{no_rows}
 use Rattle.counted_engine.proofs.Reported.{searched, all-put}
 use Rattle.step_engine.proofs.Shared.Ends.{CountsStop-memory, CountsStop-ok, CountsStop-search, CountsStop-table, full-search, full-table, went_on}
 use Rattle.counted_engine.proofs.at_once.evolve_by.Goals as goal
@@ -19,12 +20,12 @@ returns-clause-asks g c =
 pub returns-in_err-root-clause-no_room : goal.returns-in_err-root-clause-no_room
 returns-in_err-root-clause-no_room g c = λ h. start-spent c.rooted.ensures.adds
     (c.rooted.ensures.full (c.in_err-root.was ∙ ap (λ f. Err f) (full-table c.from_residual-in_err-root.result c.in_err-root.field-0.0 c.from_residual-in_err-root.ensures.1 h)))
-    c.args.limit (ap (λ (t : Table). t.rows) c.in_ok-table.ensures) (ap (λ (t : Table). t.limit) c.in_ok-table.ensures)
+    c.args.limit (no_rows _ (ap (λ (t : Table). t.rows) c.in_ok-table.ensures)) (omega (arith, ap (λ (t : Table). length t.rows) c.in_ok-table.ensures, ap (λ (t : Table). t.limit) c.in_ok-table.ensures))
 
 pub returns-in_err-found-clause-no_room : goal.returns-in_err-found-clause-no_room
 returns-in_err-found-clause-no_room g c = λ h. search-spent c.rooted.ensures.adds c.in_ok-root.ensures.root c.result.ensures.grows
     (c.result.ensures.end.full (c.in_err-found.was ∙ ap (λ f. Err f) (full-search c.from_residual-in_err-found.result c.in_err-found.field-0.0 c.from_residual-in_err-found.ensures.1 h))) c.args.limit
-    (ap (λ (t : Table). t.rows) c.in_ok-table.ensures) (ap (λ (t : Table). t.limit) c.in_ok-table.ensures)
+    (no_rows _ (ap (λ (t : Table). t.rows) c.in_ok-table.ensures)) (omega (arith, ap (λ (t : Table). length t.rows) c.in_ok-table.ensures, ap (λ (t : Table). t.limit) c.in_ok-table.ensures))
 
 pub returns-clause-evolved : goal.returns-clause-evolved
 returns-clause-evolved g c =

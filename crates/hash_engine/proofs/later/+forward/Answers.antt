@@ -37,61 +37,61 @@ pub all_forward-returns-clause-made : goal.all_forward-returns-clause-made
 all_forward-returns-clause-made g t c =
     FirstAreMade-all (g.Q.Ask.meaning c.args.rule.now) c.args.k c.args.ahead c.args.numbers.now c.args.table.now c.loop-number.table c.loop-number.invariant.made c.loop-number-test.false
 
-pub compute-returns-in_err-nine-clause-keeps : goal.compute-returns-in_err-nine-clause-keeps
-compute-returns-in_err-nine-clause-keeps g t c = nine_keeps c.requires c.min-first.ensures c.full.ensures c.nine.ensures.adds
+pub by_parts-returns-in_err-nine-clause-keeps : goal.by_parts-returns-in_err-nine-clause-keeps
+by_parts-returns-in_err-nine-clause-keeps g t c = nine_keeps c.requires c.min-first.ensures c.full.ensures c.nine.ensures.adds
 
-pub compute-all_forward-requires : goal.compute-all_forward-requires
-compute-all_forward-requires g t c κs within = let can = nine_can c.requires c.min-first.ensures c.full.ensures c.in_ok-nine.ensures.adds c.in_ok-nine.ensures.squares in search rules
+pub by_parts-all_forward-requires : goal.by_parts-all_forward-requires
+by_parts-all_forward-requires g t c κs within = let can = nine_can c.requires c.min-first.ensures c.full.ensures c.in_ok-nine.ensures.adds c.in_ok-nine.ensures.squares in search rules
 
-pub compute-returns-in_err-all_forward-clause-keeps : goal.compute-returns-in_err-all_forward-clause-keeps
-compute-returns-in_err-all_forward-clause-keeps g t c = first_keeps c.requires c.min-first.ensures c.full.ensures c.in_ok-nine.ensures.adds c.in_ok-nine.ensures.squares c.all_forward.ensures.keeps
+pub by_parts-returns-in_err-all_forward-clause-keeps : goal.by_parts-returns-in_err-all_forward-clause-keeps
+by_parts-returns-in_err-all_forward-clause-keeps g t c = first_keeps c.requires c.min-first.ensures c.full.ensures c.in_ok-nine.ensures.adds c.in_ok-nine.ensures.squares c.all_forward.ensures.keeps
 
-pub compute-join_middles-requires : goal.compute-join_middles-requires
-compute-join_middles-requires g t c =
+pub by_parts-join_middles-requires : goal.by_parts-join_middles-requires
+by_parts-join_middles-requires g t c =
     middles_can c.requires c.min-first.ensures c.full.ensures c.in_ok-nine.ensures.adds c.in_ok-nine.ensures.squares c.in_ok-all_forward.ensures.keeps c.in_ok-all_forward.ensures.found
     c.if-first-ahead.true
 
-pub compute-returns-in_err-join_middles-clause-keeps : goal.compute-returns-in_err-join_middles-clause-keeps
-compute-returns-in_err-join_middles-clause-keeps g t c =
+pub by_parts-returns-in_err-join_middles-clause-keeps : goal.by_parts-returns-in_err-join_middles-clause-keeps
+by_parts-returns-in_err-join_middles-clause-keeps g t c =
     middles_keeps c.requires c.min-first.ensures c.full.ensures c.in_ok-nine.ensures.adds c.in_ok-nine.ensures.squares c.in_ok-all_forward.ensures.keeps c.in_ok-all_forward.ensures.found
     c.if-first-ahead.true c.join_middles.ensures.adds
 
-pub compute-returns-then-first-ahead-clause-keeps : goal.compute-returns-then-first-ahead-clause-keeps
-compute-returns-then-first-ahead-clause-keeps g t c =
+pub by_parts-returns-then-first-ahead-clause-keeps : goal.by_parts-returns-then-first-ahead-clause-keeps
+by_parts-returns-then-first-ahead-clause-keeps g t c =
     middles_keeps c.requires c.min-first.ensures c.full.ensures c.in_ok-nine.ensures.adds c.in_ok-nine.ensures.squares c.in_ok-all_forward.ensures.keeps c.in_ok-all_forward.ensures.found
     c.if-first-ahead.true c.in_ok-join_middles.ensures.adds
 
-pub compute-returns-then-first-ahead-clause-found : goal.compute-returns-then-first-ahead-clause-found
-compute-returns-then-first-ahead-clause-found g t c =
+pub by_parts-returns-then-first-ahead-clause-found : goal.by_parts-returns-then-first-ahead-clause-found
+by_parts-returns-then-first-ahead-clause-found g t c =
     middles_found c.requires c.min-first.ensures c.full.ensures c.in_ok-nine.ensures.adds c.in_ok-nine.ensures.squares c.in_ok-all_forward.ensures.keeps c.in_ok-all_forward.ensures.found
     c.if-first-ahead.true (sym c.is_lean-is_lean.ensures ∙ c.if-is_lean-2.true) c.join_middles.new.table c.in_ok-join_middles.field-0 c.in_ok-join_middles.ensures.square
 
-pub compute-returns-in_err-fours-clause-keeps : goal.compute-returns-in_err-fours-clause-keeps
-compute-returns-in_err-fours-clause-keeps g t c =
+pub by_parts-returns-in_err-fours-clause-keeps : goal.by_parts-returns-in_err-fours-clause-keeps
+by_parts-returns-in_err-fours-clause-keeps g t c =
     fours_keeps c.requires c.min-first.ensures c.full.ensures c.in_ok-nine.ensures.adds c.in_ok-nine.ensures.squares c.in_ok-all_forward.ensures.keeps c.in_ok-all_forward.ensures.found c.fours.ensures.adds
 
-pub compute-all_forward-requires-2 : goal.compute-all_forward-requires-2
-compute-all_forward-requires-2 g t c κs within =
+pub by_parts-all_forward-requires-2 : goal.by_parts-all_forward-requires-2
+by_parts-all_forward-requires-2 g t c κs within =
     let can = fours_can c.requires c.min-first.ensures c.full.ensures c.in_ok-nine.ensures.adds c.in_ok-nine.ensures.squares c.in_ok-all_forward.ensures.keeps c.in_ok-all_forward.ensures.found
     c.in_ok-fours.ensures.adds c.in_ok-fours.ensures.squares in
     search rules
 
-pub compute-returns-in_err-all_forward-2-clause-keeps : goal.compute-returns-in_err-all_forward-2-clause-keeps
-compute-returns-in_err-all_forward-2-clause-keeps g t c =
+pub by_parts-returns-in_err-all_forward-2-clause-keeps : goal.by_parts-returns-in_err-all_forward-2-clause-keeps
+by_parts-returns-in_err-all_forward-2-clause-keeps g t c =
     last_keeps c.requires c.min-first.ensures c.full.ensures c.in_ok-nine.ensures.adds c.in_ok-nine.ensures.squares c.in_ok-all_forward.ensures.keeps c.in_ok-all_forward.ensures.found
     c.in_ok-fours.ensures.adds c.in_ok-fours.ensures.squares c.all_forward-2.ensures.keeps
 
-pub compute-returns-in_err-all_forward-2-clause-end : goal.compute-returns-in_err-all_forward-2-clause-end
-compute-returns-in_err-all_forward-2-clause-end g t c = grind arith
+pub by_parts-returns-in_err-all_forward-2-clause-end : goal.by_parts-returns-in_err-all_forward-2-clause-end
+by_parts-returns-in_err-all_forward-2-clause-end g t c = grind arith
 
-pub compute-returns-in_err-join_numbers-clause-keeps : goal.compute-returns-in_err-join_numbers-clause-keeps
-compute-returns-in_err-join_numbers-clause-keeps g t c =
+pub by_parts-returns-in_err-join_numbers-clause-keeps : goal.by_parts-returns-in_err-join_numbers-clause-keeps
+by_parts-returns-in_err-join_numbers-clause-keeps g t c =
     joined_keeps c.requires c.min-first.ensures c.full.ensures c.in_ok-nine.ensures.adds c.in_ok-nine.ensures.squares c.in_ok-all_forward.ensures.keeps c.in_ok-all_forward.ensures.found
     c.in_ok-fours.ensures.adds c.in_ok-fours.ensures.squares c.in_ok-all_forward-2.ensures.keeps c.in_ok-all_forward-2.ensures.found
     c.join_numbers.ensures.grows c.join_numbers.ensures.one
 
-pub compute-returns : goal.compute-returns
-compute-returns g t c =
+pub by_parts-returns : goal.by_parts-returns
+by_parts-returns g t c =
     let all = joined_all c.requires c.min-first.ensures c.full.ensures c.in_ok-nine.ensures.adds c.in_ok-nine.ensures.squares c.in_ok-all_forward.ensures.keeps c.in_ok-all_forward.ensures.found
     c.in_ok-fours.ensures.adds c.in_ok-fours.ensures.squares c.in_ok-all_forward-2.ensures.keeps c.in_ok-all_forward-2.ensures.found
     c.in_ok-join_numbers.ensures.grows c.in_ok-join_numbers.ensures.one c.in_ok-all_forward.ensures.asks c.in_ok-all_forward-2.ensures.asks c.in_ok-join_numbers.ensures.square
@@ -151,8 +151,8 @@ forward-returns-then-k-eq0-clause-keeps g t c =
 pub forward-remember-requires-clause-found : goal.forward-remember-requires-clause-found
 forward-remember-requires-clause-found g t c = within c.compute.new.table.rows _ c.in_ok-made.made c.in_ok-made.ensures.found.square.numbered
 
-pub compute-returns-then-first-ahead-clause-end : goal.compute-returns-then-first-ahead-clause-end
-compute-returns-then-first-ahead-clause-end g t c = End-found _ (went_on c.in_ok-all_forward.ensures.end)
+pub by_parts-returns-then-first-ahead-clause-end : goal.by_parts-returns-then-first-ahead-clause-end
+by_parts-returns-then-first-ahead-clause-end g t c = End-found _ (went_on c.in_ok-all_forward.ensures.end)
 
 pub forward-returns-then-k-eq0-clause-found : goal.forward-returns-then-k-eq0-clause-found
 forward-returns-then-k-eq0-clause-found g t c =
@@ -161,8 +161,8 @@ forward-returns-then-k-eq0-clause-found g t c =
 pub forward-returns-then-k-eq0-clause-end : goal.forward-returns-then-k-eq0-clause-end
 forward-returns-then-k-eq0-clause-end g t c = End-found _ (not_yet c.poll.ensures c.if-poll.false)
 
-pub compute-returns-in_err-fours-clause-end : goal.compute-returns-in_err-fours-clause-end
-compute-returns-in_err-fours-clause-end g t c =
+pub by_parts-returns-in_err-fours-clause-end : goal.by_parts-returns-in_err-fours-clause-end
+by_parts-returns-in_err-fours-clause-end g t c =
     End-fault c.fours.result c.from_residual-in_err-fours.result c.in_err-fours.field-0.0 c.in_err-fours.was c.from_residual-in_err-fours.ensures.1
     c.fours.ensures.full (went_on c.in_ok-all_forward.ensures.end)
 

@@ -3,13 +3,16 @@ use Rattle.hash_engine.proofs.Computing.{AreDone, FirstAreMade}
 use Rattle.hash_engine.proofs.later.+forward.Given as goal
 
 abbrev pub decreases-all_forward : goal.decreases-all_forward
-decreases-all_forward g l = 3 * l.k + 3
+decreases-all_forward g l = 4 * l.k + 4
 
 abbrev pub decreases-compute : goal.decreases-compute
-decreases-compute g l = 3 * l.k + 1
+decreases-compute g l = 4 * l.k + 2
+
+abbrev pub decreases-by_parts : goal.decreases-by_parts
+decreases-by_parts g l = 4 * l.k + 1
 
 abbrev pub decreases-forward : goal.decreases-forward
-decreases-forward g l = 3 * l.k + 2
+decreases-forward g l = 4 * l.k + 3
 
 abbrev pub invariant-all_forward-loop-number : goal.invariant-all_forward-loop-number
 invariant-all_forward-loop-number g l = record {

@@ -29,7 +29,7 @@ returns g c =
     let sixteen = square_of_sixteen t.rows c.args.quadrants c.states.ensures c.states-2.ensures c.states-3.ensures c.states-4.ensures in
     let cells = AreNumbers-cells t.rows c.ask_four.result c.from.ensures c.from-2.ensures c.from-3.ensures c.from-4.ensures
     (search rules) (search rules) (search rules) (search rules) in
-    let made = cells.1 ∙ c.ask_four.ensures.states ∙ sym (ap (later (g.Q.Ask.meaning c.args.rule.now)) sixteen) in
+    let made = cells.1 ∙ c.ask_four.ensures.next ∙ sym (ap (later (g.Q.Ask.meaning c.args.rule.now)) sixteen) in
     let join = c.join_numbers.ensures in
     record {
       adds = subst (λ s. Adds (s ∷ []) t u) made (Adds-made cells.0 join.grows join.one);

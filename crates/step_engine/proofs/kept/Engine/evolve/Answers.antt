@@ -1,31 +1,23 @@
-use Rattle.step_engine.proofs.Names.{Err, Table, ap, rules, subst, sym, ◌∙◌}
+use Rattle.step_engine.proofs.Names.{Err, rules, subst, sym, ◌∙◌}
 use Rattle.worlds.specs.Stop.{CountsStop}
-use Rattle.hash_engine.specs.Memo.{IsRightMemo}
 use Rattle.step_engine.specs.Evolved.{IsRoomSpent}
+use Rattle.step_engine.specs.Kept.{IsRightCache}
+use Rattle.step_engine.proofs.Caches.{IsRoomSpent-limit}
 use Rattle.step_engine.specs.declared.evolved.EvolveFault.TheVariants.{Stopped}
 use Rattle.step_engine.proofs.Shared.Ends.{CountsStop-memory, no_room-memory}
 use Rattle.step_engine.proofs.kept.Engine.evolve.Goals as goal
 
 pub invariant_of-self : goal.invariant_of-self
-invariant_of-self g c = record {
-  limit = c.pass-found.ensures.stays.limit ∙ c.self.invariant.limit;
-  right = subst (λ r. IsRightMemo (g.R.Next.meaning r) c.pass-found.new.table c.pass-found.new.memo) c.new.ensures.rule c.pass-found.ensures.stays.right;
-  latest = c.pass-found.ensures.latest;
-}
+invariant_of-self g c = subst (λ r. IsRightCache (g.R.Next.meaning r) c.pass-found.new.self) c.new.ensures.rule c.pass-found.ensures.right
 
 pub invariant_of-self-in_err-self-inside : goal.invariant_of-self-in_err-self-inside
-invariant_of-self-in_err-self-inside g c = record {
-  limit = c.pass-found.ensures.stays.limit ∙ c.self.invariant.limit;
-  right = subst (λ r. IsRightMemo (g.R.Next.meaning r) c.pass-found.new.table c.pass-found.new.memo) c.new.ensures.rule c.pass-found.ensures.stays.right;
-  latest = tt;
-}
+invariant_of-self-in_err-self-inside g c = subst (λ r. IsRightCache (g.R.Next.meaning r) c.pass-found.new.self) c.new.ensures.rule c.pass-found.ensures.right
 
 pub invariant_of-self-2 : goal.invariant_of-self-2
-invariant_of-self-2 g c = record {
-  limit = c.pass.ensures.stays.limit ∙ ap (λ (t : Table). t.limit) c.in_ok-self-inside.ensures;
-  right = subst (λ r. IsRightMemo (g.R.Next.meaning r) c.pass.new.table c.pass.new.memo) c.new-2.ensures.rule c.pass.ensures.stays.right;
-  latest = c.pass.ensures.latest;
-}
+invariant_of-self-2 g c = subst (λ r. IsRightCache (g.R.Next.meaning r) c.pass.new.self) c.new-2.ensures.rule c.pass.ensures.right
+
+pub pass-requires-clause-right : goal.pass-requires-clause-right
+pass-requires-clause-right g c = c.in_ok-self-inside.ensures.right _
 
 pub returns-then-was_new-clause-stop : goal.returns-then-was_new-clause-stop
 returns-then-was_new-clause-stop g c = c.pass-found.ensures.stop
@@ -41,5 +33,5 @@ returns-clause-stop g c = subst (λ n. CountsStop c.pass.result (Err Stopped) n 
 
 pub returns-clause-no_room : goal.returns-clause-no_room
 returns-clause-no_room g c = λ h. rw (sym c.self.view_is)
-    (subst (λ r. IsRoomSpent c.self.inside.limit (g.R.Next.meaning r) c.args.plane.now c.args.generations) c.new-2.ensures.rule
-    (c.pass.ensures.no_room h c.self.inside.limit (ap (λ (t : Table). t.rows) c.in_ok-self-inside.ensures) (ap (λ (t : Table). t.limit) c.in_ok-self-inside.ensures)))
+    (subst (λ r. IsRoomSpent c.self.inside.cache.limit (g.R.Next.meaning r) c.args.plane.now c.args.generations) c.new-2.ensures.rule
+    (IsRoomSpent-limit (c.in_ok-self-inside.ensures.limit ∙ c.pass-found.ensures.limit) (c.pass.ensures.no_room h c.in_ok-self-inside.ensures.new)))

@@ -1,0 +1,4 @@
+mod Bits
+mod Known
+mod Places
+mod Showing

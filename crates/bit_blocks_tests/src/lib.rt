@@ -1,0 +1,5 @@
+//! The tests of `bit_blocks`.
+#![tactic(auto)]
+
+#[cfg(test)]
+mod tests;
