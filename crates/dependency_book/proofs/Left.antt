@@ -1,7 +1,10 @@
 -- Nothing that is remembered is left to enter.
-use Rattle.dependency_book.proofs.Names.{ArrivalRow, BookState, CanBeReached, ComesBefore, Empty, Expected, IsHeldBook, IsRightBook, IsSome, IsSound, Job, Known, List, LooksUp, Mark, Need, None, NoneBefore, NoneKnown, PutsRow, Remembers, RowState, SameBook}
-use Rattle.dependency_book.proofs.Names.{SameButFacts, Some, Step, StepsFrom, StepsTo, Value, View, World, [], ap, ap₂, arc_value, arith, arrival_known, arrival_row, before_one, by_key, cells_at, clash, either_way, false_lt, is_mark, is_need, known, length}
-use Rattle.dependency_book.proofs.Names.{mark_at, mark_near, mark_rank, nat_lt, need_is, need_same, pattern, place_in, places_of, rank_rises, refl, row_of, state_map, step_said, step_to, steppable, subst, sym, text, true, with_facts, world_after, true_lt, ℕ, ◌+◌, ◌<◌, ◌^◌}
+use Rattle.dependency_book.proofs.Names.{ArrivalRow, BookState, CanBeReached, ComesBefore, Empty, Expected, IsHeldBook, IsRightBook, IsSome, IsSound, Known, List}
+use Rattle.dependency_book.proofs.Names.{LooksUp, Mark, Need, None, NoneBefore, NoneKnown, PutsRow, Remembers, RowState, SameBook}
+use Rattle.dependency_book.proofs.Names.{SameButFacts, Some, Step, StepsFrom, StepsTo, Value, View, World, [], ap, ap₂, arc_value, arith}
+use Rattle.dependency_book.proofs.Names.{arrival_known, arrival_row, before_one, by_key, cells_at, clash, either_way, false_lt, is_mark, is_need, known, length}
+use Rattle.dependency_book.proofs.Names.{mark_at, mark_near, mark_rank, nat_lt, need_is, need_same, pattern, place_in, places_of, rank_rises, refl, row_of, state_map, step_said}
+use Rattle.dependency_book.proofs.Names.{step_to, steppable, subst, sym, text, true, with_facts, world_after, true_lt, ℕ, ◌+◌, ◌<◌}
 use Rattle.dependency_book.proofs.Names.{◌∙◌, ◌≡◌, ◌≤◌}
 use Rattle.worlds.specs.declared.cell.CellSet.{CellSet}
 use Rattle.rule_tree.specs.declared.rule.Kind.{Kind}

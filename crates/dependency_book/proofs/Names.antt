@@ -11,6 +11,7 @@ pub use Rattle.dependency_book.specs.Inside.{state_of}
 pub use Rattle.dependency_book.specs.Jobs.{IsAnyOut, IsFilled, IsFirstOut, IsNextJob, SameBook, StepExpects, answered, cancelled, given_by, is_job}
 pub use Rattle.dependency_book.specs.Kept.{KeepsRows, KeepsUnfelt, arrival_after, bookmark_stays, mark_stays, text_kept}
 pub use Rattle.dependency_book.specs.Needs.{CanBeReached, CanBeViewed, IsLedTo, IsNext, IsNextStep, IsNextView, IsNotAfter, ViewIsNext}
+pub use Rattle.dependency_book.specs.Planned.{IsPlanned}
 pub use Rattle.dependency_book.specs.Puts.{CanBePut, PutsRow, can_change, filled_by, missing}
 pub use Rattle.dependency_book.specs.Ready.{AreHeldBack, IsFirst, NoneBefore, before_in, before_row, is_ready, place_ready, row_before, steppable, viewable}
 pub use Rattle.dependency_book.specs.Recalled.{AreGiven, Entered, Enters, EntersOrFrees, EntersSteps, Fills, LeavesNone, LooksUp, LooksUpAll, NoneKnown, Remembers, WasGiven}

@@ -1,6 +1,6 @@
 -- What is needed next, by the rows.
 use Rattle.dependency_book.proofs.Names.{All-get_or, AllByRecursion, ArrivalRow, BookState, Bookmark, Bool, Branch, CanBeReached, CanBeViewed, ComesBefore, Empty, IsFirst, IsHeldBook, IsNextStep, IsNextView, IsNotAfter, IsSound, List, Mark}
-use Rattle.dependency_book.proofs.Names.{None, NothingOut, Option, Plan, Row, RowState, Some, TextRow, [], and_parts, ap, arith, arrival_known, arrival_row, before_one, before_row, bookmark_is_mark, bookmark_mark, bookmark_rank, branch_id}
+use Rattle.dependency_book.proofs.Names.{None, NothingOut, Option, Plan, Row, RowState, Some, TextRow, [], and_parts, ap, arith, arrival_known, before_one, before_row, bookmark_is_mark, bookmark_mark, bookmark_rank, branch_id}
 use Rattle.dependency_book.proofs.Names.{by_key, clash, cond, count_by, either_way, element_at, empty_rows_of, false, false_lt, get_or, get_or_default, inl, inr, is_empty, is_known, is_mark, is_pending, is_ready, is_some, is_start, job_of}
 use Rattle.dependency_book.proofs.Names.{keys, length, mark_rank, missing, nat_lt, nat_tests, never_falls, parents_before, pending_of, place_in, place_ready, places_of, rank_branches, rank_within, refl, steppable, subst, suc, sum_by-cons}
 use Rattle.dependency_book.proofs.Names.{sym, true, true_lt, viewable, zero, ℕ, ◌&&◌, ◌<◌, ◌^◌, ◌∙◌, ◌∷◌, ◌≡◌, ◌≤◌}

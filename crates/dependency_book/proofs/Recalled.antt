@@ -1,6 +1,8 @@
 -- What came of a step may be entered for the mark that the step leads to.
-use Rattle.dependency_book.proofs.Names.{AddsOnly, Arc, AreGiven, BookState, Calls, CanBePut, CanRecall, Core, Empty, EntersOrFrees, EntersSteps, Event, Fact, Fills, Follows, Global, IsCollect, IsFilled, IsRightBook, IsSome, JobResult, Known, LooksUpAll, Need}
-use Rattle.dependency_book.proofs.Names.{List, Mark, NotExpected, Option, PutsRow, Recalled, Released, RowState, Value, SameBook, SameButFacts, Some, StepsFrom, StepsTo, TakesAnswer, WasGiven, World, [], after_event, answer_said, ap, arc_value, arith, can_change}
+use Rattle.dependency_book.proofs.Names.{AddsOnly, Arc, AreGiven, BookState, Calls, CanBePut, CanRecall, Core, Empty, EntersOrFrees, EntersSteps, Event, Fact}
+use Rattle.dependency_book.proofs.Names.{Fills, Follows, Global, IsCollect, IsFilled, IsRightBook, IsSome, JobResult, Known, LooksUpAll, Need}
+use Rattle.dependency_book.proofs.Names.{List, Mark, NotExpected, Option, PutsRow, Recalled, Released, RowState, Value, SameBook, SameButFacts, Some, StepsFrom}
+use Rattle.dependency_book.proofs.Names.{StepsTo, TakesAnswer, WasGiven, World, [], after_event, answer_said, ap, arc_value, arith, can_change}
 use Rattle.dependency_book.proofs.Names.{collects, core_of, holds, inl, inr, option_map, pattern, plain_row, recalls, recalls_right, refl, row_of, same_comes, slice_get, step_said, step_to, steps, subst, sym, true, world_after, ℕ, ◌++◌}
 use Rattle.dependency_book.proofs.Names.{with_facts, ◌∙◌, ◌∷◌, ◌≡◌, ◌≤◌}
 use Rattle.revision_jobs.specs.declared.entry.Step.{Step as Stepping}

@@ -5,7 +5,7 @@ use Rattle.dependency_book.proofs.Names.{bookmark_in, bookmark_rank, bookmark_st
 use Rattle.dependency_book.proofs.Names.{keys, made, mark_at, mark_rank, mark_stays, nat_tests, plain_row, rank_is, refl, refusal, remade_rows, row_at, row_of, state_at, subst, sym, text_kept, text_row, unless_refused, unrefused, ℕ, ◌&&◌}
 use Rattle.dependency_book.proofs.Names.{◌^◌, ◌∙◌, ◌∷◌, ◌≡◌, ◌≤◌}
 use Rattle.schedule.specs.declared.edit.Edited.{Edited}
-use Rattle.dependency_book.specs.declared.room.Rows.{Rows}
+use Rattle.dependency_book.specs.declared.remade.Rows.{Rows}
 use Rattle.dependency_book.proofs.Followed.{MayBeFelt, stays_for, texts_stay}
 use Rattle.dependency_book.proofs.Placed.{first_is}
 use Rattle.dependency_book.proofs.Remaking.{kept_for, keys-remade, state_at-remade}

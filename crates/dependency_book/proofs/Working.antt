@@ -1,5 +1,6 @@
 -- Jobs that rows expect, and what their answers give.
-use Rattle.dependency_book.proofs.Names.{All-push, Answer, AreGiven, BookState, Bookmark, Bool, Calls, CanBePut, CanIssue, Cursor, Empty, Entry, Err, Expected, Fact, IfOk, IfSome, IsCancel, IsCollect, IsEntryFrom, IsFilled, IsGiven, IsIssue}
+use Rattle.dependency_book.proofs.Names.{All-push, Answer, AreGiven, BookState, Bookmark, Bool, Calls, CanBePut, CanIssue, Cursor, Empty, Entry}
+use Rattle.dependency_book.proofs.Names.{Err, Expected, Fact, IfOk, IfSome, IsCancel, IsCollect, IsEntryFrom, IsFilled, IsGiven, IsIssue}
 use Rattle.dependency_book.proofs.Names.{IsKeptBook, IsNext, IsNextJob, IsOf, IsRightAnswer, IsRightBook, IsTrueAnswer, Job, JobResult, List, Mark, Need, None, NotExpected, Ok, Option, Place, Plan, PutsRow, Result, RowState, Some, Step}
 use Rattle.dependency_book.proofs.Names.{StepExpects, TakesAnswer, Value, View, [], after_event, answer_said, answered, ap, arith, awaits, bookmark_id, bookmark_in, bookmark_rank, can_change, cancelled, cancels, clash, collects, core_of}
 use Rattle.dependency_book.proofs.Names.{either_way, entry_of, eq_false, eq_true, expected, false, filled_by, fun_ext, get_last, get_left, given_by, has_id, has_mark, has_number, if◌then◌else◌, index_of, inl, inr, is_job, is_mark, is_need}

@@ -16,7 +16,7 @@ use Rattle.desk_events.specs.declared.mark.Mark.{Mark}
 use Rattle.desk_events.specs.declared.need.Need.{Need}
 use Rattle.dependency_book.specs.Entered.{IsEntryOf}
 use Rattle.dependency_book.specs.RowState.{job_of, has_number}
-use Rattle.dependency_book.specs.BookState.{BookState, NothingOut, SameButFacts, expected, given_of, row_of, empty_rows_of}
+use Rattle.dependency_book.specs.BookState.{BookState, NothingOut, SameButFacts, expected, given_of, empty_rows_of}
 use Rattle.desk_events.specs.Marks.{is_mark, is_start}
 use Rattle.dependency_book.specs.Needs.{IsNext}
 use Rattle.dependency_book.specs.Rows.{keys}

@@ -9,12 +9,12 @@ pub mod Inside
 pub mod Jobs
 pub mod Kept
 pub mod Needs
+pub mod Planned
 pub mod Puts
 pub mod Ready
 pub mod Recalled
 pub mod Remade
 pub mod Right
-pub mod Room
 pub mod RowState
 pub mod Rows
 pub mod Said

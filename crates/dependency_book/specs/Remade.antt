@@ -6,7 +6,7 @@ use Rattle.dependency_book.specs.declared.row.RowState.{RowState}
 use Rattle.dependency_book.specs.declared.row.RowState.TheVariants.{Empty}
 use Rattle.dependency_book.specs.declared.row.Row.{Row}
 use Rattle.desk_events.specs.declared.mark.Mark.{Mark}
-use Rattle.dependency_book.specs.declared.room.Rows.{Rows}
+use Rattle.dependency_book.specs.declared.remade.Rows.{Rows}
 use Rattle.document_marks.specs.AllMarks.{AreMarksOf, mark_rank}
 use Rattle.dependency_book.specs.Held.{places_of}
 use Rattle.dependency_book.specs.Kept.{mark_stays, bookmark_stays}

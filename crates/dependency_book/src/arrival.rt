@@ -1,7 +1,10 @@
-//! Patterns that arrive at marks.
+//! The rows of marks.
 ghost use Rattle.std.specs.Prelude.{◌≡◌};
 ghost use Rattle.std.specs.Arc.{arc_value};
 
+use crate::row::{Key, Row};
+use desk_events::Mark;
+use document_marks::rank_of;
 use schedule::Plane;
 use std::marker::Model;
 use std::sync::Arc;
@@ -43,5 +46,18 @@ impl Arrival {
         ensures { arc_value result.now ≡ self.now }
     {
         &self.plane
+    }
+}
+
+/// A mark with what arrives there, or the job that is out for it.
+pub(crate) type ArrivalRow = Row<Mark, Arrival>;
+
+impl Key for Mark {
+    ghost use Rattle.document_marks.specs.AllMarks.{mark_rank};
+
+    ghost rank = { mark_rank };
+
+    fn rank(&self) -> u128 {
+        rank_of(*self)
     }
 }

@@ -1,24 +1,29 @@
 //! The book.
 ghost use Rattle.std.specs.Prelude.{◌≡◌, ◌≤◌, ◌+◌, IfOk, IfNone, IfSome, length};
-ghost use Rattle.dependency_book.specs.BookState.{NothingOut, opened, pending_of, row_of};
+ghost use Rattle.std.specs.Arc.{arc_value};
+ghost use Rattle.dependency_book.specs.BookState.{NothingOut, arrival_known, opened};
+ghost use Rattle.dependency_book.specs.BookState.{pending_of, row_of};
+ghost use Rattle.dependency_book.specs.Felt.{IsFoundBy};
 ghost use Rattle.dependency_book.specs.Needs.{IsNext, IsNextStep, IsNextView};
 ghost use Rattle.dependency_book.specs.Right.{IsRightBook};
 ghost use Rattle.dependency_book.specs.Shown.{Shows};
 ghost use Rattle.dependency_book.specs.declared.row.RowState.TheVariants.{Empty};
 
+use crate::arrival::ArrivalRow;
 use crate::cursor::Cursor;
-use crate::mark::ArrivalRow;
-use crate::need::{first_step, first_view};
 use crate::refusals::Refusals;
+use crate::row::Key;
 use crate::shown::Shown;
-use crate::texts::{TextRow, pending_count};
+use crate::steps::first_step;
+use crate::texts::{TextRow, first_view, pending_count};
 use desk_events::{Mark, Need};
 use ranked_rows::get;
 use revision_jobs::{Entries, Place};
-use schedule::Document;
+use schedule::{Document, Plane};
 use std::alloc::{AllocError, Global};
 use std::marker::Model;
 use std::num::NonZeroUsize;
+use std::sync::Arc;
 use step_facts::Facts;
 
 /// A document, what is known to arrive at its marks, the texts of its bookmarks that are known, the
@@ -123,6 +128,22 @@ impl<'e> Book<'e> {
                 None => Shown::Pending,
             },
             None => Shown::NoSuch,
+        }
+    }
+
+    /// What arrives at a mark, if it is known.
+    pub(crate) fn known_at(&self, mark: Mark) -> Option<&Arc<Plane>>
+        ensures { IsFoundBy (λ plane. arc_value plane.now) (arrival_known self.now mark) result }
+    {
+        if mark.is_start() {
+            return Some(self.document.start());
+        }
+        match get(&self.arrivals, mark.rank()) {
+            Some(row) => match row.state.known() {
+                Some(arrival) => Some(arrival.plane()),
+                None => None,
+            },
+            None => None,
         }
     }
 

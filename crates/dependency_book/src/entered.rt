@@ -9,8 +9,8 @@ ghost use Rattle.dependency_book.specs.Needs.{IsLedTo, IsNext};
 ghost use Rattle.dependency_book.specs.Right.{IsRightBook};
 
 use crate::book::Book;
-use crate::need::before_row;
 use crate::row::Key;
+use crate::steps::before_row;
 use desk_events::{Mark, Need};
 use edit_effects::cells_at;
 use ranked_rows::{get, place_in};

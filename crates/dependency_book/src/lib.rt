@@ -21,22 +21,18 @@
 
 mod arrival;
 mod book;
+mod change;
 mod cursor;
 mod entered;
-mod felt;
 mod filled;
 mod jobs;
-mod mark;
-mod need;
-mod recall;
 mod refusals;
 mod remade;
-mod revise;
-mod room;
 mod row;
 mod rows;
 mod shared_text;
 mod shown;
+mod steps;
 mod texts;
 
 pub use book::Book;

@@ -1,13 +1,13 @@
 //! The rows of bookmarks.
-ghost use Rattle.std.specs.Prelude.{◌≡◌, count_by};
+ghost use Rattle.std.specs.Prelude.{◌≡◌, count_by, length};
 ghost use Rattle.dependency_book.specs.BookState.{is_pending};
+ghost use Rattle.dependency_book.specs.Ready.{IsFirst, NoneBefore, can_view, place_ready, viewable};
 
-use crate::remade::Keeps;
+use crate::arrival::ArrivalRow;
 use crate::row::{Key, Row};
 use crate::shared_text::SharedText;
 use desk_events::Mark;
-use edit_effects::leaves_after;
-use schedule::{Bookmark, Document};
+use schedule::Bookmark;
 
 /// A bookmark with its text, or the job that is out for it.
 pub(crate) type TextRow = Row<Bookmark, SharedText>;
@@ -19,16 +19,6 @@ impl Key for Bookmark {
 
     fn rank(&self) -> u128 {
         u128::from(self.id)
-    }
-}
-
-impl Keeps for Bookmark {
-    ghost use Rattle.dependency_book.specs.Kept.{bookmark_stays};
-
-    ghost stays = { bookmark_stays };
-
-    fn stays(&self, document: &Document, felt: Option<Mark>, was: &Bookmark) -> bool {
-        leaves_after(document, felt, Mark::of(self)) && was.generation == self.generation
     }
 }
 
@@ -50,4 +40,44 @@ pub(crate) fn pending_count(rows: &[TextRow]) -> usize
         }
     }
     count
+}
+
+// Whether what arrives at a mark is known, whose row is at this place; the start always is.
+fn is_ready_in(arrivals: &[ArrivalRow], mark: Mark, place: usize) -> bool
+    ensures { result ≡ place_ready arrivals.now mark place }
+{
+    if mark.is_start() {
+        return true;
+    }
+    match arrivals.get(place) {
+        Some(row) => row.state.is_known(),
+        None => false,
+    }
+}
+
+// Whether nothing stands for a text where what arrives at its mark is known.
+fn can_view(arrivals: &[ArrivalRow], row: &TextRow, place: usize) -> bool
+    ensures { result ≡ can_view arrivals.now row.now place }
+{
+    row.state.is_empty() && is_ready_in(arrivals, Mark::of(&row.key), place)
+}
+
+/// The place of the first text for which nothing stands where what arrives at its mark is known.
+/// The places are those of the texts' marks among the arrivals. No text before `from` is one.
+pub(crate) fn first_view(
+    arrivals: &[ArrivalRow],
+    texts: &[TextRow],
+    places: &[usize],
+    from: usize,
+) -> Option<usize>
+    requires long { length places.now ≡ length texts.now }
+    requires passed { NoneBefore (viewable arrivals.now texts.now places.now) from }
+    ensures { IsFirst (viewable arrivals.now texts.now places.now) (length texts.now) result }
+{
+    for index in from..texts.len() {
+        if can_view(arrivals, &texts[index], places[index]) {
+            return Some(index);
+        }
+    }
+    None
 }

@@ -12,9 +12,7 @@
 #![tactic(auto)]
 
 mod marks;
-mod most;
 mod rank;
 
-pub use marks::marks_of;
-pub use most::marks_at_most_after;
+pub use marks::{marks_at_most_after, marks_of};
 pub use rank::rank_of;

@@ -1,12 +1,15 @@
-//! The cells that are set at a mark, before an edit and after it.
-ghost use Rattle.std.specs.Prelude.{◌≡◌, IfOk};
+//! The cells that are set at a mark, before an edit and after it, and whether a pattern becomes the
+//! same one by both.
+ghost use Rattle.std.specs.Prelude.{◌≡◌, ◌↔◌, IfOk, IsTrue, None, Some};
 ghost use Rattle.schedule.specs.Asked.{asked_of};
+ghost use Rattle.schedule.specs.Change.{changed, first_refusal, refusals};
 ghost use Rattle.schedule.specs.Scratch.{cells_at};
+ghost use Rattle.desk_events.specs.Felt.{LayAlikeOn, cells_acting_at};
 ghost use Rattle.edit_effects.specs.CellsAfter.{cells_after, cells_if_at};
 ghost use Rattle.edit_effects.specs.CellsAfter.{inserted_cells, own_cells_after};
 
 use desk_events::Mark;
-use schedule::{Acts, CellSet, Edit, Intervention, Listing};
+use schedule::{Acts, CellSet, Document, Edit, Intervention, Listing, Plane};
 use std::alloc::{AllocError, Global};
 
 /// The cells that the interventions of a mark set, by rising id.
@@ -27,8 +30,8 @@ pub fn cells_at(
     Ok(Listing::from_vec(cells))
 }
 
-/// The cells that interventions set at a mark after an edit, by rising id.
-pub(crate) fn cells_after(
+// The cells that interventions set at a mark after an edit, by rising id.
+fn cells_after(
     alloc: Global,
     interventions: &[Intervention],
     edit: &Edit,
@@ -86,4 +89,28 @@ fn cells_if_at(branch: u64, acts: Acts, cells: &Listing<CellSet>, mark: Mark) ->
     } else {
         &[]
     }
+}
+
+/// Whether a pattern that arrives at a mark becomes the same one by what acts there before an edit
+/// that fits and by what acts there after it.
+pub fn lays_alike(
+    alloc: Global,
+    document: &Document,
+    edit: &Edit,
+    mark: Mark,
+    arrival: &Plane,
+) -> Result<bool, AllocError>
+    requires { first_refusal (refusals document.now (asked_of edit.now)) ≡ None }
+    ensures { IfOk result (λ alike. IsTrue alike ↔ LayAlikeOn (Some arrival.now)
+        (cells_acting_at document.now.interventions mark)
+        (cells_acting_at (changed document.now (asked_of edit.now)).plan.interventions mark)) }
+{
+    // A document keeps its limits, so its cells can be laid.
+    let _start = document.start();
+    let interventions = document.interventions();
+    let old = cells_at(alloc, interventions, mark)?;
+    let new = cells_after(alloc, interventions, edit, mark)?;
+    let before = arrival.lay(old.as_slice())?;
+    let after = arrival.lay(new.as_slice())?;
+    Ok(before.equals(&after))
 }

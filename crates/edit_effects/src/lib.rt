@@ -11,12 +11,8 @@
 //! step is computed.
 #![tactic(auto)]
 
-mod alike;
 mod cells;
-mod kept;
-mod touched;
+mod felt;
 
-pub use alike::lays_alike;
-pub use cells::cells_at;
-pub use kept::{keeps_arrival, leaves_after};
-pub use touched::{felt_from, touched_by};
+pub use cells::{cells_at, lays_alike};
+pub use felt::{felt_from, keeps_arrival, leaves_after, touched_by};

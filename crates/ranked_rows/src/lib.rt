@@ -7,7 +7,6 @@
 //! once, side by side, and the rows stand in room that its caller gives.
 #![tactic(auto)]
 
-mod left;
 mod place;
 mod ranked;
 mod remake;

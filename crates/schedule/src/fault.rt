@@ -2,7 +2,7 @@
 ghost use Rattle.std.specs.Prelude.{◌≡◌};
 ghost use Rattle.schedule.specs.declared.fault.EditFault.TheVariants.{NoMemory};
 
-use basics::Refusal;
+use basics::{Reason, Refusal};
 use std::alloc::{AllocError, AllocFailed};
 use thiserror::Error;
 
@@ -88,51 +88,25 @@ impl Refusal for EditFault {
 
     ghost place_of = { λ _. None };
 
-    fn number(&self) -> u8 {
+    fn reason(&self) -> Reason {
         match self {
-            EditFault::GenerationTooFar => 40,
-            EditFault::CellOutOfRange => 41,
-            EditFault::CellStateTooHigh => 42,
-            EditFault::NoSuchIntervention => 43,
-            EditFault::NoSuchBookmark => 44,
-            EditFault::TooManyInterventions => 45,
-            EditFault::TooManyBookmarks => 46,
-            EditFault::TooManyCells => 47,
-            EditFault::BadWindow => 48,
-            EditFault::RevisionSpent => 49,
-            EditFault::NoSuchBranch => 50,
-            EditFault::BeforeFork => 51,
-            EditFault::BranchInUse => 52,
-            EditFault::TooManyBranches => 53,
-            EditFault::TooManyMarks => 54,
-            EditFault::BadRepeat => 55,
-            EditFault::NoMemory => 70,
+            EditFault::GenerationTooFar => Reason::of(40, "GenerationTooFar"),
+            EditFault::CellOutOfRange => Reason::of(41, "CellOutOfRange"),
+            EditFault::CellStateTooHigh => Reason::of(42, "CellStateTooHigh"),
+            EditFault::NoSuchIntervention => Reason::of(43, "NoSuchIntervention"),
+            EditFault::NoSuchBookmark => Reason::of(44, "NoSuchBookmark"),
+            EditFault::TooManyInterventions => Reason::of(45, "TooManyInterventions"),
+            EditFault::TooManyBookmarks => Reason::of(46, "TooManyBookmarks"),
+            EditFault::TooManyCells => Reason::of(47, "TooManyCells"),
+            EditFault::BadWindow => Reason::of(48, "BadWindow"),
+            EditFault::RevisionSpent => Reason::of(49, "RevisionSpent"),
+            EditFault::NoSuchBranch => Reason::of(50, "NoSuchBranch"),
+            EditFault::BeforeFork => Reason::of(51, "BeforeFork"),
+            EditFault::BranchInUse => Reason::of(52, "BranchInUse"),
+            EditFault::TooManyBranches => Reason::of(53, "TooManyBranches"),
+            EditFault::TooManyMarks => Reason::of(54, "TooManyMarks"),
+            EditFault::BadRepeat => Reason::of(55, "BadRepeat"),
+            EditFault::NoMemory => Reason::of(70, "NoMemory"),
         }
-    }
-
-    fn name(&self) -> &'static str {
-        match self {
-            EditFault::GenerationTooFar => "GenerationTooFar",
-            EditFault::CellOutOfRange => "CellOutOfRange",
-            EditFault::CellStateTooHigh => "CellStateTooHigh",
-            EditFault::NoSuchIntervention => "NoSuchIntervention",
-            EditFault::NoSuchBookmark => "NoSuchBookmark",
-            EditFault::TooManyInterventions => "TooManyInterventions",
-            EditFault::TooManyBookmarks => "TooManyBookmarks",
-            EditFault::TooManyCells => "TooManyCells",
-            EditFault::BadWindow => "BadWindow",
-            EditFault::RevisionSpent => "RevisionSpent",
-            EditFault::NoSuchBranch => "NoSuchBranch",
-            EditFault::BeforeFork => "BeforeFork",
-            EditFault::BranchInUse => "BranchInUse",
-            EditFault::TooManyBranches => "TooManyBranches",
-            EditFault::TooManyMarks => "TooManyMarks",
-            EditFault::BadRepeat => "BadRepeat",
-            EditFault::NoMemory => "NoMemory",
-        }
-    }
-
-    fn place(&self) -> Option<u64> {
-        None
     }
 }

@@ -23,7 +23,7 @@ mod laws;
 mod repeats;
 
 pub use acts::Acts;
-pub use basics::{Listing, Refusal};
+pub use basics::{Listing, Reason, Refusal};
 pub use bookmarks::View;
 pub use branch::Branch;
 pub use document::{Bookmark, Document, Intervention};

@@ -154,7 +154,7 @@ fn number(rt: &impl Abort, document: &mut Document, edit: &Edit) -> u8 {
         }
         Err(fault) => {
             check_refused(rt, &checked, before, fault, after);
-            fault.number()
+            fault.reason().number
         }
     }
 }

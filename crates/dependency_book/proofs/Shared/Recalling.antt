@@ -1,5 +1,6 @@
 -- What entering what was computed before leaves.
-use Rattle.dependency_book.proofs.Names.{BookState, Empty, Entered, Enters, EntersSteps, Fact, Known, List, Mark, Need, RowState, SameBook, SameButFacts, Value, [], ap, arith, either_way, empty_rows_of, inl, inr, is_need, missing, need_is, pattern, refl}
+use Rattle.dependency_book.proofs.Names.{BookState, Empty, Entered, Enters, EntersSteps, Fact, Known, List, Mark, Need, RowState, SameBook, SameButFacts, Value}
+use Rattle.dependency_book.proofs.Names.{[], ap, arith, either_way, empty_rows_of, inl, inr, is_need, missing, need_is, pattern, refl}
 use Rattle.dependency_book.proofs.Names.{row_of, step_to, subst, sym, with_facts, world_after, ℕ, ◌∙◌, ◌∷◌, ◌≡◌, ◌≤◌, ◌⊎◌}
 use Rattle.revision_jobs.specs.declared.entry.Step.{Step as Stepping}
 

@@ -77,9 +77,9 @@ fn last_revision_is_given(rt: HostRuntime) {
 }
 
 fn check_fault(rt: &impl Abort, fault: EditFault, number: u8, name: &'static str) {
-    same(rt, &fault.number(), &number, &name);
-    same(rt, &fault.name(), &name, &name);
-    same(rt, &fault.place(), &None, &name);
+    same(rt, &fault.reason().number, &number, &name);
+    same(rt, &fault.reason().name, &name, &name);
+    same(rt, &fault.reason().place, &None, &name);
 }
 
 #[test]

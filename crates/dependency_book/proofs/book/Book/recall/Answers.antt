@@ -1,4 +1,5 @@
-use Rattle.dependency_book.proofs.Names.{Arc, AreGiven, BookState, Empty, Fact, Global, IfSome, IsLedTo, IsSome, List, LooksUp, Mark, Option, Some, StepsTo, WasGiven, World, ap, arc_value, arith, option_map, refl, row_of, state_of, step_to, subst}
+use Rattle.dependency_book.proofs.Names.{Arc, AreGiven, BookState, Empty, Fact, Global, IfSome, IsLedTo, IsSome, List, LooksUp, Mark, Option, Some}
+use Rattle.dependency_book.proofs.Names.{StepsTo, WasGiven, World, ap, arc_value, arith, option_map, refl, row_of, state_of, step_to, subst}
 use Rattle.dependency_book.proofs.Names.{sym, with_facts, world_after, ◌∙◌, ◌≡◌}
 use Rattle.step_facts.specs.Known.{known}
 use Rattle.revision_jobs.specs.declared.entry.Step.{Step as Stepping}

@@ -1,4 +1,4 @@
-use Rattle.dependency_book.proofs.Names.{CanBeReached, ap, arith, clash, pattern, refl, state_map, sym, ◌∙◌}
+use Rattle.dependency_book.proofs.Names.{ap, arith, clash, pattern, refl, state_map, sym, ◌∙◌}
 use Rattle.dependency_book.proofs.Found.{held_back}
 use Rattle.dependency_book.proofs.Left.{looks_only}
 use Rattle.dependency_book.proofs.Needed.{reached_at, steps_there}

@@ -1,5 +1,0 @@
-use Rattle.dependency_book.specs.Ready.{NoneBefore, steppable}
-use Rattle.dependency_book.proofs.need.first_step.Given as goal
-
-abbrev pub invariant-loop-place : goal.invariant-loop-place
-invariant-loop-place l = NoneBefore (steppable l.document.branches l.arrivals) l.place
