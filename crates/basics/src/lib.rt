@@ -8,4 +8,4 @@ mod listing;
 mod refusal;
 
 pub use listing::Listing;
-pub use refusal::Refusal;
+pub use refusal::{Reason, Refusal};

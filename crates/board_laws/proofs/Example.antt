@@ -29,6 +29,6 @@ pictures_of_one = record {
   peeked = λ post. record {
     reply = Shown 1;
     gives = refl;
-    left = record { by = (inl refl, refl); pending = tt; jobs = λ takes. absurd takes; silent = λ _. refl };
+    left = record { by = (inl refl, refl); pending = tt; jobs = λ takes. absurd takes; silent = λ _. refl; kind = refl };
   };
 }

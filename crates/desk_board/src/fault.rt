@@ -1,6 +1,6 @@
 //! Why there is no board, or nothing was published.
 
-use basics::Refusal;
+use basics::{Reason, Refusal};
 use std::alloc::{AllocError, AllocFailed};
 use thiserror::Error;
 
@@ -77,22 +77,11 @@ impl Refusal for BoardFault {
 
     ghost place_of = { λ _. None };
 
-    fn number(&self) -> u8 {
+    fn reason(&self) -> Reason {
         match self {
-            BoardFault::NoMemory => 70,
-            BoardFault::NoViewer => 75,
+            BoardFault::NoMemory => Reason::of(70, "NoMemory"),
+            BoardFault::NoViewer => Reason::of(75, "NoViewer"),
         }
-    }
-
-    fn name(&self) -> &'static str {
-        match self {
-            BoardFault::NoMemory => "NoMemory",
-            BoardFault::NoViewer => "NoViewer",
-        }
-    }
-
-    fn place(&self) -> Option<u64> {
-        None
     }
 }
 
@@ -106,19 +95,9 @@ impl Refusal for PublishFault {
 
     ghost place_of = { λ _. None };
 
-    fn number(&self) -> u8 {
+    fn reason(&self) -> Reason {
         match self {
-            PublishFault::NoMemory => 70,
+            PublishFault::NoMemory => Reason::of(70, "NoMemory"),
         }
-    }
-
-    fn name(&self) -> &'static str {
-        match self {
-            PublishFault::NoMemory => "NoMemory",
-        }
-    }
-
-    fn place(&self) -> Option<u64> {
-        None
     }
 }

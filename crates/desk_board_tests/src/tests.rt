@@ -160,9 +160,9 @@ fn boards_of_1_and_of_16_viewers(rt: HostRuntime) {
 }
 
 fn check_fault(rt: &impl Abort, fault: &impl Refusal, number: u8, name: &'static str) {
-    same(rt, &fault.number(), &number, &name);
-    same(rt, &fault.name(), &name, &number);
-    same(rt, &fault.place(), &None, &name);
+    same(rt, &fault.reason().number, &number, &name);
+    same(rt, &fault.reason().name, &name, &number);
+    same(rt, &fault.reason().place, &None, &name);
 }
 
 #[test]

@@ -1,5 +1,6 @@
 -- A list of calls with one more behind it.
-use Rattle.desk_core.proofs.Names.{BookState, Bool, Call, CancelsAny, Cause, ComesBy, ComesByAll, GoesByCalls, IsSome, IssueFault, IssuesNone, Job, List, None, Option, PostView, RefusesIssue, Some, StopsAtCause, [], answer_in, answers_in, ap, append-nil, append_assoc, arith, cause_of_issue, false}
+use Rattle.desk_core.proofs.Names.{BookState, Bool, Call, CancelsAny, Cause, ComesBy, ComesByAll, GoesByCalls, IsSome, IssueFault, IssuesNone, Job, List, None, Option}
+use Rattle.desk_core.proofs.Names.{PostView, RefusesIssue, Some, StopsAtCause, [], answer_in, answers_in, ap, append-nil, append_assoc, arith, cause_of_issue, false}
 use Rattle.desk_core.proofs.Names.{first_cause, is_issue, met_by, refl, subst, sym, true, ◌++◌, ◌∙◌, ◌∷◌, ◌≡◌}
 use Rattle.std.specs.Option.{option_or}
 use Rattle.desk_core.specs.Calls as call

@@ -1,10 +1,13 @@
 -- What feeding a post does with each job.
-use Rattle.desk_core.proofs.Names.{BookState, Bool, Cancels, Cause, Comes, Empty, Expected, FeedsOn, IsRightBook, IssueFault, IssuesFor, Job, Need, None, Option, PostView, RefusesIssue, RowState, Sends, Sent, Serves, Some, Taken, Value, ap}
-use Rattle.desk_core.proofs.Names.{arith, at_rest, cancelled, cause_of_issue, given_of, if◌then◌else◌, inl, inr, is_need, job_of, nat_tests, need_is, need_same, ready, refl, row_of, stage, subst, sym, true, ℕ, ◌+◌, ◌∙◌, ◌≡◌, ◌⊎◌}
+use Rattle.desk_core.proofs.Names.{BookState, Bool, Cancels, Cause, Comes, Empty, Expected, FeedsOn, HoldsAllOut, IsRightBook, IsSome, IssueFault, IssuesFor, Job, Need, None, NothingOut, Option, PostView, RefusesIssue, RowState, Sends}
+use Rattle.desk_core.proofs.Names.{Sent, Serves, Some, Taken, Value, ap, arith, at_rest, cancelled, cause_of_issue, expected, given_of, if◌then◌else◌, inl, inr, is_need, job_of, nat_tests, need_is, need_same, pending_of, ready, refl}
+use Rattle.desk_core.proofs.Names.{row_of, stage, subst, sym, true, ℕ, ◌+◌, ◌∙◌, ◌≡◌, ◌⊎◌}
 use Rattle.std.specs.Option.{option_map}
-use Rattle.dependency_book.specs.Needs.{IsNext}
+use Rattle.revision_jobs.specs.Posted.{SendsPromptly}
+use Rattle.desk_core.specs.Issued.{IsIssued}
 use Rattle.desk_core.specs.Polling.{IsCauseOf}
-use Rattle.desk_core.specs.Feed.{FedUntil, floor_after}
+use Rattle.desk_core.specs.Settling.{HoldsJobsOut}
+use Rattle.desk_core.specs.Feed.{FedUntil, HoldsWork, floor_after}
 use Rattle.desk_core.proofs.Known.{stays-issued}
 use Rattle.desk_core.proofs.Steps.{GoesOn-cancelled, GoesOn-idle, GoesOn-issued, GoesOn-on, GoesOn-refused, GoesOn-sent, HasCome-first, Idles-refused, Keeps-come, ServesOn-come, barred}
 use Rattle.desk_core.proofs.Shared.Given.{same_given, issued_given}
@@ -80,15 +83,32 @@ cause_is : (refused : Option IssueFault) (told : Option Cause) → IsCauseOf ref
 cause_is None told is = is
 cause_is (Some fault) told is = is
 
+-- where nothing is pending unless a job is out, a post that holds whatever is out holds one
+holds_work : (d : BookState) (held : Option Job) → (NothingOut d → pending_of d ≡ 0) → HoldsJobsOut held d
+    → HoldsWork (pending_of d) held
+holds_work d (Some job) none out = inr refl
+holds_work d None none out = inl (none (λ need. nowhere (expected d need) (out need)))
+  where
+    nowhere : (job : Option Job) → ((other : Job) → job ≡ Some other → None ≡ Some other) → job ≡ None
+    nowhere None h = refl
+    nowhere (Some job) h = sym (h job refl)
+
+-- so does a prompt one that didn't take a job
+refused_holds : (job : Job) (before after : Option Job) (said : Sent) → (said ≡ Taken → ⊥)
+    → SendsPromptly job before after said → IsSome after
+refused_holds job before after said other h = grind arith
+
 -- what a feeding leaves
 fed : (first new : BookState) (p q : PostView) (taken : ℕ) (refused : Option IssueFault) → Serves first p
     → Comes (stage first p (at_rest None)) (stage new q (at_rest (option_map cause_of_issue refused)))
     → ((need : Need) → (row_of first need ≡ Empty) ⊎ (row_of new need ≡ row_of first need)) → IsRightBook new
     → q.floor ≡ floor_after p.floor (given_of first) taken → q.answers ≡ p.answers
-    → FedUntil p q first new taken refused → FeedsOn p q first new taken refused
-fed first new p q taken refused serves comes stays right floor silent ended =
+    → FedUntil p q first new taken refused → (HoldsAllOut new q → refused ≡ None → HoldsWork (pending_of new) q.held)
+    → FeedsOn p q first new taken refused
+fed first new p q taken refused serves comes stays right floor silent ended prompt =
     let cause = option_map cause_of_issue refused in
     let come = comes first p (HasCome-first first p (at_rest None) refl refl serves) in
+    let on = ServesOn-come first new p q (at_rest cause) refl come in
     record {
       feeds = record {
         stays = stays;
@@ -99,20 +119,22 @@ fed first new p q taken refused serves comes stays right floor silent ended =
         silent = silent;
         ended = ended;
         calls = come.calls;
+        prompt = λ all. prompt (on.held all);
       };
-      serves = ServesOn-come first new p q (at_rest cause) refl come;
+      serves = on;
       comes = λ told is.
           subst (λ c. Comes (stage first p (at_rest None)) (stage new q (at_rest c)))
           (sym (cause_is refused told is)) comes;
     }
 
 -- no more job was issued
-pub fed-ended : (first old new : BookState) (p q : PostView) (taken : ℕ) → IsNext old None → new ≡ old → IsRightBook new
+pub fed-ended : (first old new : BookState) (p q : PostView) (taken : ℕ) → IsIssued old new None → IsRightBook new
     → HasFed first old p q taken → FeedsOn p q first new taken None
-fed-ended first old new p q taken next same right h =
-    subst (λ d. FeedsOn p q first d taken None) (sym same)
-    (fed first old p q taken None h.began h.comes h.stays (subst IsRightBook same right)
-    h.floor h.silent (inl (record { given = h.given; asked = h.asked }, next)))
+fed-ended first old new p q taken none right h =
+    subst (λ d. FeedsOn p q first d taken None) (sym none.1)
+    (fed first old p q taken None h.began h.comes h.stays (subst IsRightBook none.1 right)
+    h.floor h.silent (inl (record { given = h.given; asked = h.asked }, none.0))
+    (λ all refused. holds_work old q.held (subst (λ d. NothingOut d → pending_of d ≡ 0) none.1 none.2) all.held))
 
 -- an issue was refused
 pub fed-unissued : (first old new : BookState) (p q : PostView) (taken : ℕ) (fault : IssueFault)
@@ -127,7 +149,7 @@ fed-unissued first old new p q taken fault refuses right h =
     right h.floor h.silent (
       record { given = bars.given ∙ h.given; asked = h.asked },
       record { before = old; none = h.refused; refuses = refuses },
-    )
+    ) (λ all none. absurd (cc))
 
 -- the last job wasn't taken
 pub fed-refused : (first old mid new : BookState) (need : Need) (job : Job) (p q r : PostView) (taken : ℕ) (said : Sent)
@@ -149,4 +171,4 @@ fed-refused first old mid new need job p q r taken said issued middle cancels ot
     (inr (record {
       given = omega (arith, one, h.given, still);
       asked = omega (arith, sends.same.asked, h.asked);
-    }))
+    })) (λ all refused. inr (refused_holds job q.held r.held said other (sends.prompt (sym sends.same.kind ∙ all.prompt))))

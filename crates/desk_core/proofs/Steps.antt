@@ -1,7 +1,9 @@
 -- How a settling goes on by what is issued, sent, answered and cancelled.
-use Rattle.desk_core.proofs.Names.{BookState, CanSendNext, CancelsAny, Cause, CollectsAs, Err, EvolveFault, Explains, GivesAtMost, GoesByCalls, GoesOn, HasCome, IfSome, IsOf, IsOwnAnswer, IsRightBook, IssueFault, IssuesFor, Job, JobResult, KeepsJobs, KeepsKnown}
+use Rattle.desk_core.proofs.Names.{BookState, CanSendNext, CancelsAny, Cause, CollectsAs, Err, EvolveFault, Explains, GivesAtMost, GoesByCalls, GoesOn, HasCome}
+use Rattle.desk_core.proofs.Names.{IfSome, IsOf, IsOwnAnswer, IsRightBook, IssueFault, IssuesFor, Job, JobResult, KeepsJobs, KeepsKnown}
 use Rattle.desk_core.proofs.Names.{KeepsWhatIsKnown, List, Need, None, Nothing, Option, PostView, Progress, Receives, RefusesIssue, SameBook, SameDocument, SawStop, Sends, Sent, Serves, ServesOn, Settles, Some, Stage, Taken, TellsCause, []}
-use Rattle.desk_core.proofs.Names.{ap, append-nil, append_assoc, arith, cause_of_answer, cause_of_issue, empty_rows_of, expected, false, few_rows, given_of, inl, inr, is_some, job_in, job_of, keys, length, length-map, met_by, ready, refl, row_of}
+use Rattle.desk_core.proofs.Names.{ap, append-nil, append_assoc, arith, cause_of_answer, cause_of_issue, empty_rows_of, expected, false, few_rows, given_of, inl}
+use Rattle.desk_core.proofs.Names.{inr, is_some, job_in, job_of, keys, length, length-map, met_by, ready, refl, row_of}
 use Rattle.desk_core.proofs.Names.{stage, subst, sym, true, unwrap_or, ℕ, ◌++◌, ◌+◌, ◌<◌, ◌∙◌, ◌∷◌, ◌≡◌, ◌≤◌, ◌⊎◌}
 use Rattle.std.specs.Option.{option_or}
 use Rattle.revision_jobs.specs.declared.post.Received.TheVariants as received

@@ -1,18 +1,19 @@
 -- What feeding a post does to a desk.
-use Rattle.std.specs.Prelude.{◌≡◌, ◌⊎◌, ℕ, ◌+◌, Option, Some, None, if◌then◌else◌, ◌==◌}
+use Rattle.std.specs.Prelude.{◌≡◌, ◌⊎◌, ℕ, ◌+◌, Option, Some, None, IsSome, if◌then◌else◌, ◌==◌}
 use Rattle.std.specs.Option.{option_map}
+use Rattle.revision_jobs.specs.declared.answer.Job.{Job}
 use Rattle.revision_jobs.specs.Posted.{PostView}
 use Rattle.desk_events.specs.declared.need.Need.{Need}
 use Rattle.dependency_book.specs.declared.row.RowState.TheVariants.{Empty}
 use Rattle.dependency_book.specs.Jobs.{SameDocument}
-use Rattle.dependency_book.specs.BookState.{BookState, given_of, row_of}
+use Rattle.dependency_book.specs.BookState.{BookState, given_of, row_of, pending_of}
 use Rattle.dependency_book.specs.Needs.{IsNext}
 use Rattle.dependency_book.specs.Right.{IsRightBook}
 use Rattle.desk_core.specs.declared.issue.IssueFault.{IssueFault}
 use Rattle.desk_core.specs.Calls.{GoesByCalls}
 use Rattle.desk_core.specs.Cause.{cause_of_issue}
 use Rattle.desk_core.specs.Issued.{RefusesIssue}
-use Rattle.desk_core.specs.Settling.{KeepsWhatIsKnown}
+use Rattle.desk_core.specs.Settling.{HoldsAllOut, KeepsWhatIsKnown}
 
 -- the floor of a post that took so many jobs, with the numbers from a first one on
 abbrev pub floor_after : ℕ → ℕ → ℕ → ℕ
@@ -36,9 +37,14 @@ FedUntil p q old new taken (Some fault) = AsksForNumbers p q old new taken × Re
 FedUntil p q old new taken None =
     (AsksForNumbers p q old new taken × IsNext new None) ⊎ AsksForNumbers p q old new (taken + 1)
 
+-- nothing is pending, or a job is held
+abbrev pub HoldsWork : ℕ → Option Job → Type 0
+HoldsWork pending held = (pending ≡ 0) ⊎ IsSome held
+
 -- so many jobs were taken, whose numbers are those from the first that was given on; whatever stood
 -- in a row stands there still, no answer was given, and feeding ended for this refusal, if for one,
--- which is the first cause that its calls met
+-- which is the first cause that its calls met; without one a prompt post that held whatever was out
+-- holds a job then, or nothing is pending
 pub record Feeds (p q : PostView) (old new : BookState) (taken : ℕ) (refused : Option IssueFault)
     : Type 0 where
   pub stays : (need : Need) → (row_of old need ≡ Empty) ⊎ (row_of new need ≡ row_of old need)
@@ -49,6 +55,7 @@ pub record Feeds (p q : PostView) (old new : BookState) (taken : ℕ) (refused :
   pub silent : q.answers ≡ p.answers
   pub ended : FedUntil p q old new taken refused
   pub calls : GoesByCalls p q old new (option_map cause_of_issue refused)
+  pub prompt : HoldsAllOut old p → refused ≡ None → HoldsWork (pending_of new) q.held
 
 -- so a post was fed, whatever ended it
 pub record FeedsAll (p q : PostView) (old new : BookState) (taken : ℕ) : Type 0 where

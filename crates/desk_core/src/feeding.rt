@@ -19,6 +19,9 @@ pub(crate) struct Fed {
 /// be issued, or the post doesn't take one, which is cancelled. How many it took. Nothing is
 /// received, so whatever was known or out stays so, and all of it is a list of calls on the desk
 /// (`Feeds`); the post serves the desk still (`ServesOn`). It may wait where the post's send does.
+///
+/// Over a prompt post that holds whatever is out, unless an issue is refused, the post holds a job
+/// then, or nothing is pending.
 pub fn feed<P: Post>(rt: &impl Wait, desk: &mut Desk<'_>, post: &mut P) -> u32
     requires { Serves desk.old (P.view post.old) }
     ensures feeds { FeedsAll (P.view post.old) (P.view post.new) desk.old desk.new result }

@@ -39,6 +39,6 @@ pub use polling::{Polled, poll};
 pub use revision_jobs::{
     Answer, Entries, Entry, InlinePost, Job, NoGate, Outcome, Place, Post, Received, Sent, work,
 };
-pub use schedule::{CellSet, Edit, EditFault, Edited, Listing, Plane, Refusal, Rule, View};
+pub use schedule::{CellSet, Edit, EditFault, Edited, Listing, Plane, Reason, Refusal, Rule, View};
 pub use settling::{Settling, settle, settle_seen};
 pub use step_engine::EvolveFault;

@@ -1,8 +1,9 @@
 //! Polling a post: what has come is collected, and what is needed next is sent.
 ghost use Rattle.desk_core.specs.Calls.{GoesByCalls};
-ghost use Rattle.desk_core.specs.Polling.{IsCauseOf, Polls};
+ghost use Rattle.desk_core.specs.Polling.{IsCauseOf, Polls, PollsPromptly};
 ghost use Rattle.desk_core.specs.Progress.{CollectsOn};
-ghost use Rattle.desk_core.specs.Settling.{KeepsWhatIsKnown, Serves, ServesOn, TellsCause};
+ghost use Rattle.desk_core.specs.Settling.{HoldsAllOut, KeepsWhatIsKnown, Serves, ServesOn};
+ghost use Rattle.desk_core.specs.Settling.{TellsCause};
 
 use crate::cause::Cause;
 use crate::desk::Desk;
@@ -34,8 +35,10 @@ pub struct Polled {
 /// isn't taken (`Polls`). All of this is a list of calls on the desk: the cause is the first that
 /// they met, and behind it nothing was issued (`GoesByCalls`).
 ///
-/// Over a post without threads each poll works at most one job, so what it finds depends on the
-/// polls and edits before it alone.
+/// Over a prompt post that holds whatever is out, as one without threads does, each poll works the
+/// one job that it holds, and no other; and unless a cause is told, the post holds a job again or
+/// nothing is pending (`PollsPromptly`). So how many jobs are worked depends on how often it is
+/// polled, and not on time.
 pub fn poll<P: Post>(rt: &impl Wait, desk: &mut Desk<'_>, post: &mut P) -> Polled
     requires { Serves desk.old (P.view post.old) }
     ensures keeps { KeepsWhatIsKnown desk.old desk.new (P.view post.new) }
@@ -43,6 +46,8 @@ pub fn poll<P: Post>(rt: &impl Wait, desk: &mut Desk<'_>, post: &mut P) -> Polle
     ensures cause { TellsCause (P.view post.old) (P.view post.new) desk.old desk.new result.cause }
     ensures calls { GoesByCalls (P.view post.old) (P.view post.new) desk.old desk.new result.cause }
     ensures polls { Polls (P.view post.old) (P.view post.new) desk.old desk.new result }
+    ensures prompt { HoldsAllOut desk.old (P.view post.old) →
+        PollsPromptly (P.view post.old) (P.view post.new) result }
 {
     if let Some(cause) = collect_all(desk, post) {
         return Polled {

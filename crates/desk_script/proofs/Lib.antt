@@ -2,6 +2,5 @@ pub mod Prepends
 pub mod Lacking
 pub mod Hearing
 pub mod Pushed
-pub mod Listing
 pub mod Shared
 pub mod Names

@@ -4,7 +4,6 @@ pub use Rattle.desk_script.specs.Asks.{Ask, Between, InText, LinePlace, Obey, Re
 pub use Rattle.desk_script.specs.Command.{acting_of, adds_branch, before, cell_of, cells_said, cells_set, change_of, command_by, command_of, command_of_words, count_of, counted, edit_by, edit_in_branch, edit_in_named}
 pub use Rattle.desk_script.specs.Command.{format_of, format_of_words, further_edit_by, inserted, looking_by, on_of, once_by, once_of, one_count, repeated_by, repeated_of, some_cells, start_of}
 pub use Rattle.desk_script.specs.Heard.{BreaksOff, CanLackMemory, Hears, IsReadAs, LineCanLackMemory}
-pub use Rattle.desk_script.specs.Listed.{branch_line, intervention_line}
 pub use Rattle.desk_script.specs.Parts.{part_text}
 pub use Rattle.desk_script.specs.ReadsBack.{AreCounts, AreWritten, EditLinesReadBack, IsCount, IsWrittenCell, IsWrittenDistance, IsWrittenView, ReadsBack}
 pub use Rattle.desk_script.specs.Scripted.{cell_words, edit_line, edit_lines, rule_lines, script_text, skip_lines, start_lines, view_words}

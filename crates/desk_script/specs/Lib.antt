@@ -7,5 +7,4 @@ pub mod Asks
 pub mod Heard
 pub mod Parts
 pub mod Scripted
-pub mod Listed
 pub mod ReadsBack

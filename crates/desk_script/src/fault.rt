@@ -1,6 +1,6 @@
 //! Why a line of a script is refused.
 
-use schedule::Refusal;
+use schedule::{Reason, Refusal};
 
 /// Why a line of a script, counted from 1, is no command. The script goes on with the next line.
 #[derive(Clone, Copy, Debug, PartialEq, Eq)]
@@ -21,23 +21,10 @@ impl Refusal for ScriptFault {
 
     ghost place_of = { λ fault. Some (fault_line fault) };
 
-    fn number(&self) -> u8 {
+    fn reason(&self) -> Reason {
         match self {
-            ScriptFault::BadCommand(_) => 80,
-            ScriptFault::NoEnd(_) => 81,
-        }
-    }
-
-    fn name(&self) -> &'static str {
-        match self {
-            ScriptFault::BadCommand(_) => "BadCommand",
-            ScriptFault::NoEnd(_) => "NoEnd",
-        }
-    }
-
-    fn place(&self) -> Option<u64> {
-        match self {
-            ScriptFault::BadCommand(line) | ScriptFault::NoEnd(line) => Some(*line),
+            ScriptFault::BadCommand(line) => Reason::at(80, "BadCommand", *line),
+            ScriptFault::NoEnd(line) => Reason::at(81, "NoEnd", *line),
         }
     }
 }

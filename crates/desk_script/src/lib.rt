@@ -5,8 +5,7 @@
 //! Where memory ran out, what was asked is something for which that can happen.
 //!
 //! `script_of` writes a document as the script that makes it anew. The line of each edit in it asks
-//! for this edit. `tell_branches`, `tell_interventions` and `tell_bookmark` write the lines that list what
-//! a document has.
+//! for this edit.
 //!
 //! `opens_text` and `is_command` say what a single line would ask between texts.
 //!
@@ -22,7 +21,6 @@ mod format;
 mod heard;
 mod interventions;
 mod laws;
-mod listed;
 mod part;
 mod request;
 mod rule_text;
@@ -35,8 +33,7 @@ pub use fault::ScriptFault;
 pub use format::{Format, opens_text};
 pub use heard::{Heard, listen};
 pub use laws::edit_lines_read_back;
-pub use listed::{tell_bookmark, tell_branches, tell_interventions};
-pub use part::{Part, push_parts, tell_parts};
+pub use part::Part;
 pub use request::Request;
 pub use rule_text::RuleText;
 pub use scripting::script_of;

@@ -1,7 +1,7 @@
 -- The desks that commands leave.
 use Rattle.desk_server.proofs.Names.{Ask, Asked, BookState, CanLackMemory, Cause, Command, ComputedFor, Format, IsDoneWith, IsLeftBy, IsReadAs, IsRefused, KeepsCalls, LeavesDesk, LeavesOver, List, MeansEdit, Obey, Option, PostView}
 use Rattle.desk_server.proofs.Names.{Reply, Request, Refuse, RevisedOrSame}
-use Rattle.desk_server.proofs.Names.{KeptText, None, ScriptFault, Some, Take, TakenOrSame, TakesAnswers, TellsPending, [], append-nil, arith, inl, inr, pending_of, refl, subst, sym, ℕ, ◌≡◌, ◌≢◌, ◌⊎◌}
+use Rattle.desk_server.proofs.Names.{KeptText, None, ScriptFault, Some, Take, TakenOrSame, TakesAnswers, TellsPending, [], append-nil, arith, inl, inr, pending_of, refl, subst, sym, true, ℕ, ◌≡◌, ◌≢◌, ◌⊎◌}
 use Rattle.script_lines.specs.KeptText.{IsText}
 use Rattle.std.specs.Option.{option_map}
 use Rattle.dependency_book.specs.Right.{IsRightBook}
@@ -12,7 +12,7 @@ use Rattle.desk_core.specs.declared.settling.Settling.TheVariants as settling
 use Rattle.desk_core.specs.Calls.{GoesByCalls}
 use Rattle.desk_core.specs.Cause.{cause_of_issue}
 use Rattle.desk_core.specs.Feed.{FeedsAll}
-use Rattle.desk_core.specs.Polling.{Polls}
+use Rattle.desk_core.specs.Polling.{Polls, PollsPromptly}
 use Rattle.desk_core.specs.Settling.{EndsOver, KeepsKnown, KeepsWhatIsKnown, Settles, TellsCause}
 use Rattle.desk_script.specs.declared.command.Command.TheVariants as command
 use Rattle.desk_script.specs.declared.request.Request.TheVariants as request
@@ -61,15 +61,16 @@ computed_some turns p q old mid new ending n cause is settles ends calls known r
   inr (first_told turns p q old mid ending n cause is ends),
 )
 
-module _ (p q : PostView) (old new : BookState) where
+module _ (p q : PostView) (old new : BookState) (kind : q.is_prompt ≡ p.is_prompt) where
   -- a settling
   pub left_settled : (cause : Option Cause) → ComputedFor cause p q old new → TellsCause p q old new cause
       → pending_of new ≡ 0 → LeavesDesk (Obey command.Settle) reply.Settled p q old new
   left_settled cause computed told none = record {
     by = (computed.0, tt);
     pending = all_known new computed.0.right none;
-    jobs = λ _. record { later = told.later; gave = told.gave; leaves = none };
+    jobs = λ _. record { later = told.later; gave = told.gave; leaves = none; prompt = λ _. tt };
     silent = λ idle. absurd (idle tt);
+    kind = kind;
   }
 
   pub left_unsettled : (n : ℕ) (cause : Option Cause) → ComputedFor cause p q old new → TellsCause p q old new cause
@@ -82,8 +83,10 @@ module _ (p q : PostView) (old new : BookState) where
       later = told.later;
       gave = told.gave;
       leaves = (is, nothing_out new n done is some, told.explained);
+      prompt = λ _. tt;
     };
     silent = λ idle. absurd (idle tt);
+    kind = kind;
   }
     where
       is_first : (first : Option Cause) → (pending_of new ≡ 0) ⊎ (cause ≡ first) → cause ≡ first
@@ -95,19 +98,26 @@ module _ (p q : PostView) (old new : BookState) where
   left_shown id cause pending computed told done = record {
     by = (inl refl, inr (pending, computed.0));
     pending = tt;
-    jobs = λ _. record { later = told.later; gave = told.gave; leaves = λ _. done };
+    jobs = λ _. record { later = told.later; gave = told.gave; leaves = λ _. done; prompt = λ _. tt };
     silent = λ idle. absurd (idle tt);
+    kind = kind;
   }
 
   -- a poll
   pub left_polled : (polled : Polled) → GoesByCalls p q old new polled.cause → KeepsWhatIsKnown old new q
-      → TellsCause p q old new polled.cause → Polls p q old new polled
+      → TellsCause p q old new polled.cause → Polls p q old new polled → (p.is_prompt ≡ true → PollsPromptly p q polled)
       → LeavesDesk (Obey command.Poll) (reply.Polled polled.pending polled.cause) p q old new
-  left_polled polled calls keeps told polls = record {
+  left_polled polled calls keeps told polls prompt = record {
     by = (record { first = polled.cause; calls = calls; known = keeps.known; right = polls.right }, refl);
     pending = polls.pending;
-    jobs = λ _. record { later = told.later; gave = told.gave; leaves = (polls.pending, told.explained) };
+    jobs = λ _. record {
+      later = told.later;
+      gave = told.gave;
+      leaves = (polls.pending, told.explained);
+      prompt = prompt;
+    };
     silent = λ idle. absurd (idle tt);
+    kind = kind;
   }
 
   -- what sends jobs
@@ -123,6 +133,7 @@ module _ (p q : PostView) (old new : BookState) where
     pending = tt;
     jobs = λ takes. absurd takes;
     silent = λ _. feeds.feeds.silent;
+    kind = kind;
   }
 
 -- a show at once
@@ -131,15 +142,21 @@ pub left_at_once : (p : PostView) (d : BookState) (id : ℕ) → ¬ IsPending d 
 left_at_once p d id none = record {
   by = (inl refl, inl (refl, refl));
   pending = tt;
-  jobs = λ _. record { later = []; gave = sym (append-nil p.answers); leaves = λ pending. absurd (none pending) };
+  jobs = λ _. record {
+    later = [];
+    gave = sym (append-nil p.answers);
+    leaves = λ pending. absurd (none pending);
+    prompt = λ _. tt;
+  };
   silent = λ _. refl;
+  kind = refl;
 }
 
 -- what takes no answers
 pub left_idle : (ask : Ask) (r : Reply) (p : PostView) (old new : BookState) → IsLeftBy ask r p p old new
     → TellsPending r new → ¬ TakesAnswers ask → LeavesDesk ask r p p old new
 left_idle ask r p old new by pending idle =
-    record { by = by; pending = pending; jobs = λ takes. absurd (idle takes); silent = λ _. refl }
+    record { by = by; pending = pending; jobs = λ takes. absurd (idle takes); silent = λ _. refl; kind = refl }
 
 -- what is out of memory leaves the desk as it is
 lacks_left : (ask : Ask) (r : Reply) (p : PostView) (d : BookState) → CanLackMemory ask → IsRefused r
@@ -148,7 +165,8 @@ lacks_left ask r p d can refused = grind (arith)
 
 lacks_jobs : (ask : Ask) (r : Reply) (p : PostView) (d : BookState) → IsRefused r → CanLackMemory ask → TakesAnswers ask
     → LeavesOver p p r d d
-lacks_jobs ask r p d refused can takes = record { later = []; gave = sym (append-nil p.answers); leaves = grind (arith) }
+lacks_jobs ask r p d refused can takes =
+    record { later = []; gave = sym (append-nil p.answers); leaves = grind (arith); prompt = λ _. grind (arith) }
 
 -- what a request asks
 pub left_obeyed : (asked : Request) (command : Command) (r : Reply) (p q : PostView) (old new : BookState)
@@ -181,4 +199,5 @@ left_none asked r p d is refused pending ask asks =
       pending = pending;
       jobs = lacks_jobs ask r p d refused can;
       silent = λ _. refl;
+      kind = refl;
     }

@@ -7,4 +7,5 @@ pub mod Known
 pub mod Left
 pub mod Calls
 pub mod Lines
+pub mod Told
 pub mod Names

@@ -5,10 +5,10 @@ pub use Rattle.dependency_book.specs.RowState.{has_number, is_known, job_of, kno
 pub use Rattle.dependency_book.specs.ShownRows.{shown_row, shown_rows}
 pub use Rattle.dependency_book.specs.declared.shown.Shown.TheVariants.{Current, NoSuch}
 pub use Rattle.desk_core.specs.declared.cause.Cause.{Cause}
-pub use Rattle.desk_script.proofs.Shared.Parts.{broken, more, wrote_then}
 pub use Rattle.desk_script.specs.Asks.{Ask, Between, Obey, Refuse, Take, asks}
 pub use Rattle.desk_script.specs.Heard.{AsksIfAny, BreaksOff, CanLackMemory, Hears, IsReadAs}
-pub use Rattle.desk_script.specs.Listed.{bookmark_line, branch_line, intervention_line, lines_of, listed_text}
+pub use Rattle.desk_server.specs.Listed.{bookmark_line, branch_line, intervention_line, lines_of, listed_text}
+pub use Rattle.desk_script.specs.Parts.{part_text}
 pub use Rattle.desk_script.specs.declared.command.Command.{Command}
 pub use Rattle.desk_script.specs.declared.fault.ScriptFault.{ScriptFault}
 pub use Rattle.desk_script.specs.declared.format.Format.{Format}
@@ -39,8 +39,9 @@ pub use Rattle.schedule.specs.declared.fault.EditFault.{EditFault}
 pub use Rattle.script_lines.proofs.Shared.Told.{IsUnderWay, front_first, front_then, wrote_err, wrote_is_err, wrote_is_ok}
 pub use Rattle.script_lines.specs.Faults.{AppendsFront, Wrote}
 pub use Rattle.script_lines.specs.declared.kept_text.KeptText.{KeptText}
-pub use Rattle.std.proofs.Common.{Bool, Err, IfNone, IfSome, IsSome, List, None, Ok, Option, Result, Some, [], ap, append-nil, append_assoc, arith, codes, cond, count_by, decimal, false, flat_map, inl, inr, is_some, length, map, not, refl}
-pub use Rattle.std.proofs.Common.{rules, subst, sym, true, zip, ℕ, ◌++◌, ◌+◌, ◌-◌, ◌<◌, ◌==◌, ◌^◌, ◌∙◌, ◌∷◌, ◌≡◌, ◌≢◌, ◌≤◌, ◌⊎◌}
+pub use Rattle.std.proofs.Common.{Bool, Err, IfNone, IfSome, IsSome, List, None, Ok, Option, Result, Some, [], ap, append-nil, append_assoc, arith}
+pub use Rattle.std.proofs.Common.{codes, cond, count_by, decimal, drop, false, flat_map, get_or, inl, inr, is_some, length, map, not, refl}
+pub use Rattle.std.proofs.Common.{rules, subst, suc, sym, true, zero, zip, ℕ, ◌++◌, ◌+◌, ◌-◌, ◌<◌, ◌==◌, ◌^◌, ◌∙◌, ◌∷◌, ◌≡◌, ◌≢◌, ◌≤◌, ◌⊎◌}
 pub use Rattle.std.proofs.lemmas.Bool.{cond-true}
 pub use Rattle.std.proofs.lemmas.Bool.Decides.{nat_tests}
 pub use Rattle.std.specs.Io.KnownBytes.{Appends, Consumes, IsAtEnd}

@@ -21,7 +21,7 @@ use Rattle.desk_script.specs.declared.command.Command.TheVariants as command
 use Rattle.desk_script.specs.Asks.{Ask, Obey, Take, Refuse}
 use Rattle.desk_script.specs.Scripted.{script_text}
 use Rattle.desk_server.specs.Faults.{Fault, of_rule, of_pattern, of_macrocell, of_edit, of_script}
-use Rattle.desk_script.specs.Listed.{listed_text}
+use Rattle.desk_server.specs.Listed.{listed_text}
 use Rattle.desk_server.specs.Reply.{scripted_text, accepted_text, settled_text, working_text, unsettled_text, polled_text, current_text, pending_text, refused_text, help_text, bye_text}
 use Rattle.desk_server.specs.Shortage.{Shortage, Unread, Memory, Unsettled, Pending, Still, Known}
 

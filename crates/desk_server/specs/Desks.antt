@@ -101,13 +101,15 @@ IsLeftBy (Take format text) reply p q old new = TakenOrSame format text old new
 IsLeftBy _ reply p q old new = new ≡ old
 
 -- so a desk is left, of which the reply tells truly how many texts it doesn't know; what takes
--- answers leaves such jobs, and to what takes none the post gave none
+-- answers leaves such jobs, and to what takes none the post gave none; the post is of the kind that
+-- it was
 pub record LeavesDesk (ask : Ask) (reply : Reply) (p q : PostView) (old new : BookState)
     : Type 0 where
   pub by : IsLeftBy ask reply p q old new
   pub pending : TellsPending reply new
   pub jobs : TakesAnswers ask → LeavesOver p q reply old new
   pub silent : ¬ TakesAnswers ask → q.answers ≡ p.answers
+  pub kind : q.is_prompt ≡ p.is_prompt
 
 -- the desk has the opening document, and nothing is known or out
 abbrev pub IsOpened : BookState → Type 0

@@ -1,5 +1,6 @@
 pub mod Faults
 pub mod Reply
+pub mod Listed
 pub mod Shortage
 pub mod Answer
 pub mod Script

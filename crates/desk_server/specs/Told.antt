@@ -9,7 +9,7 @@ use Rattle.dependency_book.specs.BookState.{BookState, text_known, pending_of, N
 use Rattle.desk_events.specs.Wanted.{bookmark_in}
 use Rattle.dependency_book.specs.Shown.{IsPending}
 use Rattle.dependency_book.specs.ShownRows.{shown_rows}
-use Rattle.desk_core.specs.Polling.{Polls}
+use Rattle.desk_core.specs.Polling.{Polls, PollsPromptly}
 use Rattle.desk_core.specs.Settling.{Explains}
 use Rattle.desk_script.specs.Asks.{Ask, Obey}
 use Rattle.desk_script.specs.declared.command.Command.TheVariants as command
@@ -17,7 +17,7 @@ use Rattle.desk_server.specs.declared.reply.Reply.{Reply}
 use Rattle.desk_server.specs.declared.reply.Reply.TheVariants as reply
 use Rattle.desk_server.specs.Jobs.{IsDoneWith}
 use Rattle.desk_server.specs.Faults.{fault_of, of_edit}
-use Rattle.desk_script.specs.Listed.{bookmark_line, listed_text}
+use Rattle.desk_server.specs.Listed.{bookmark_line, listed_text}
 use Rattle.desk_server.specs.Reply.{scripted_text, accepted_text, settled_text, working_text, unsettled_text, polled_text, current_text, pending_text, refused_text, help_text, bye_text}
 
 -- a bookmark that is shown: no such one, or without or with its text
@@ -40,7 +40,8 @@ reply_text known (reply.Shown id) =
 reply_text known (reply.Polled pending cause) = polled_text pending cause
 reply_text known reply.Listed = listed_text known.plan (has_text known)
 reply_text known (reply.Scripted script) = scripted_text script
-reply_text known (reply.Refused number name place) = refused_text (fault_of number name.now place)
+reply_text known (reply.Refused reason) =
+    refused_text (fault_of reason.number reason.name.now reason.place)
 reply_text known reply.Help = help_text
 reply_text known reply.Bye = bye_text
 
@@ -55,7 +56,7 @@ ends _ = false
 
 -- something was refused
 abbrev pub IsRefused : Reply → Type 0
-IsRefused (reply.Refused number name place) = ⊤
+IsRefused (reply.Refused reason) = ⊤
 IsRefused _ = ⊥
 
 -- the text of each bookmark is known
@@ -89,11 +90,19 @@ Leaves limit answers (reply.Polled pending cause) old new =
     (pending ≡ pending_of new) × IfSome cause (Explains limit old new answers)
 Leaves limit answers _ old new = ⊤
 
--- the post gave more answers, over which this is left at the post's limit
+-- after a poll a prompt post has answered the job that it held, and no other, and unless a cause is
+-- told, nothing is pending or it holds a job again
+abbrev pub LeavesPromptly : PostView → PostView → Reply → Type 0
+LeavesPromptly p q (reply.Polled pending cause) =
+    PollsPromptly p q (record { pending = pending; cause = cause })
+LeavesPromptly p q _ = ⊤
+
+-- the post gave more answers, over which this is left at the post's limit, and by its kind
 pub record LeavesOver (p q : PostView) (reply : Reply) (old new : BookState) : Type 0 where
   pub later : List JobResult
   pub gave : q.answers ≡ p.answers ++ later
   pub leaves : Leaves p.limit later reply old new
+  pub prompt : p.is_prompt ≡ true → LeavesPromptly p q reply
 
 -- the post was polled, and the reply tells what was found
 abbrev pub PollsBy : PostView → PostView → BookState → BookState → Reply → Type 0

@@ -19,6 +19,7 @@
 
 mod listener;
 mod listing;
+mod parts;
 mod reply;
 mod serve;
 mod server;

@@ -10,8 +10,9 @@ ghost use Rattle.desk_server.specs.Reply.{help_text, scripted_text};
 ghost use Rattle.desk_server.specs.Told.{IsRefused, TellsPending, reply_text, ends};
 
 use crate::listing::tell_list;
-use desk_core::{Cause, Desk, EditFault, Listing, Refusal, Shown};
-use desk_script::{Part, tell_parts};
+use crate::parts::tell_parts;
+use desk_core::{Cause, Desk, EditFault, Listing, Reason, Refusal, Shown};
+use desk_script::Part;
 use script_help::command_list;
 use script_lines::{CountedWriter, Failed};
 use std::io::Write;
@@ -50,12 +51,8 @@ pub enum Reply {
     Scripted {
         script: Listing<u8>,
     },
-    /// A refusal: its number and name, and its line or offset if it has one.
-    Refused {
-        number: u8,
-        name: &'static str,
-        place: Option<u64>,
-    },
+    /// Why something was refused.
+    Refused(Reason),
     /// The list of the commands.
     Help,
     /// The script ends.
@@ -79,11 +76,7 @@ pub(crate) fn refused<F: Refusal>(fault: &F) -> Reply
     ensures pending { (known : BookState) → TellsPending result known }
     ensures is { IsRefused result }
 {
-    Reply::Refused {
-        number: fault.number(),
-        name: fault.name(),
-        place: fault.place(),
-    }
+    Reply::Refused(fault.reason())
 }
 
 fn tell_accepted<W: Write, L: Ledger>(
@@ -172,21 +165,19 @@ fn tell_polled<W: Write, L: Ledger>(
 
 fn tell_refused<W: Write, L: Ledger>(
     writer: &mut CountedWriter<W, L>,
-    number: u8,
-    name: &str,
-    place: Option<u64>,
+    reason: Reason,
 ) -> Result<(), Failed>
     ensures bytes { Wrote writer.old.contents writer.new.contents result
-        (refused_text (fault_of number name.now place)) }
+        (refused_text (fault_of reason.number reason.name.now reason.place)) }
     ensures worked { OnOk result (writer.new.failures ≡ writer.old.failures) }
     ensures failed { OnErr result (writer.new.failures ≡ writer.old.failures + 1) }
 {
     let refused = Part::Text(b"refused ");
-    let number = Part::Number(number as u64);
+    let number = Part::Number(u64::from(reason.number));
     let space = Part::Text(b" ");
-    let name = Part::Text(name.as_bytes());
+    let name = Part::Text(reason.name.as_bytes());
     let end = Part::Text(b"\n");
-    match place {
+    match reason.place {
         None => tell_parts(writer, &[refused, number, space, name, end]),
         Some(place) => tell_parts(
             writer,
@@ -217,7 +208,7 @@ fn tell_shown<W: Write, L: Ledger>(
     match desk.shown(id) {
         Shown::NoSuch => {
             let fault = EditFault::NoSuchBookmark;
-            tell_refused(writer, fault.number(), fault.name(), fault.place())
+            tell_refused(writer, fault.reason())
         }
         Shown::Pending => tell_parts(writer, &[bookmark, number, Part::Text(b" pending\n")]),
         Shown::Current(text) => {
@@ -279,11 +270,7 @@ fn tell<W: Write, L: Ledger>(
         Reply::Polled { pending, cause } => tell_polled(writer, *pending, *cause),
         Reply::Listed => tell_list(writer, desk),
         Reply::Scripted { script } => tell_scripted(writer, script.as_slice()),
-        Reply::Refused {
-            number,
-            name,
-            place,
-        } => tell_refused(writer, *number, name, *place),
+        Reply::Refused(reason) => tell_refused(writer, *reason),
         Reply::Help => tell_help(writer),
         Reply::Bye => writer.tell(b"bye\n"),
     }

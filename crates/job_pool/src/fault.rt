@@ -1,6 +1,6 @@
 //! Why there is no pool.
 
-use basics::Refusal;
+use basics::{Reason, Refusal};
 use std::alloc::AllocError;
 use thiserror::Error;
 
@@ -43,22 +43,11 @@ impl Refusal for PoolFault {
 
     ghost place_of = { λ _. None };
 
-    fn number(&self) -> u8 {
+    fn reason(&self) -> Reason {
         match self {
-            PoolFault::NoMemory => 70,
-            PoolFault::NoWorker => 74,
+            PoolFault::NoMemory => Reason::of(70, "NoMemory"),
+            PoolFault::NoWorker => Reason::of(74, "NoWorker"),
         }
-    }
-
-    fn name(&self) -> &'static str {
-        match self {
-            PoolFault::NoMemory => "NoMemory",
-            PoolFault::NoWorker => "NoWorker",
-        }
-    }
-
-    fn place(&self) -> Option<u64> {
-        None
     }
 }
 

@@ -286,7 +286,7 @@ fn stop_one<P: Post>(
     go_on.store(true, Ordering::SeqCst);
     let outcome = received(rt, post).into_parts().outcome;
     match outcome {
-        Outcome::Gave(fault) => Some(fault.number()),
+        Outcome::Gave(fault) => Some(fault.reason().number),
         Outcome::Plane(_) => None,
         Outcome::Text(_) => None,
     }
@@ -346,11 +346,16 @@ fn a_worker_goes_on_under_another_rule(rt: HostRuntime) {
     answered(&rt, pool(&rt, alloc, &entries, gates, SQUARES, (), body));
 }
 
+/// Stops the test where a fault has another number or name, or a place.
+fn expect_reason(rt: &impl Abort, fault: PoolFault, number: u8, name: &'static str) {
+    let reason = fault.reason();
+    same(rt, &reason.number, &number, &name);
+    same(rt, &reason.name, &name, &number);
+    same(rt, &reason.place, &None, &name);
+}
+
 #[test]
 fn faults_have_their_numbers(rt: HostRuntime) {
-    same(&rt, &PoolFault::NoMemory.number(), &70, &"memory");
-    same(&rt, &PoolFault::NoMemory.name(), &"NoMemory", &"memory");
-    same(&rt, &PoolFault::NoWorker.number(), &74, &"worker");
-    same(&rt, &PoolFault::NoWorker.name(), &"NoWorker", &"worker");
-    same(&rt, &PoolFault::NoWorker.place(), &None, &"place");
+    expect_reason(&rt, PoolFault::NoMemory, 70, "NoMemory");
+    expect_reason(&rt, PoolFault::NoWorker, 74, "NoWorker");
 }

@@ -2,7 +2,7 @@
 ghost use Rattle.std.specs.Prelude.{◌≡◌};
 ghost use Rattle.macrocell_lines.specs.declared.fault.McFault.TheVariants.{NoMemory};
 
-use basics::Refusal;
+use basics::{Reason, Refusal};
 use std::alloc::{AllocError, AllocFailed};
 use thiserror::Error;
 
@@ -61,36 +61,16 @@ impl Refusal for McFault {
 
     ghost place_of = { fault_place };
 
-    fn number(&self) -> u8 {
+    fn reason(&self) -> Reason {
         match self {
-            McFault::BoundedGrid => 23,
-            McFault::NoM2 => 30,
-            McFault::BadRow(_) => 31,
-            McFault::BadChild(_) => 32,
-            McFault::TooDeep => 33,
-            McFault::Timeline => 34,
-            McFault::NoMemory => 70,
-            McFault::NoRoom => 71,
-        }
-    }
-
-    fn name(&self) -> &'static str {
-        match self {
-            McFault::BoundedGrid => "BoundedGrid",
-            McFault::NoM2 => "NoM2",
-            McFault::BadRow(_) => "BadRow",
-            McFault::BadChild(_) => "BadChild",
-            McFault::TooDeep => "TooDeep",
-            McFault::Timeline => "Timeline",
-            McFault::NoMemory => "NoMemory",
-            McFault::NoRoom => "NoRoom",
-        }
-    }
-
-    fn place(&self) -> Option<u64> {
-        match self {
-            McFault::BadRow(line) | McFault::BadChild(line) => Some(*line),
-            _ => None,
+            McFault::BoundedGrid => Reason::of(23, "BoundedGrid"),
+            McFault::NoM2 => Reason::of(30, "NoM2"),
+            McFault::BadRow(line) => Reason::at(31, "BadRow", *line),
+            McFault::BadChild(line) => Reason::at(32, "BadChild", *line),
+            McFault::TooDeep => Reason::of(33, "TooDeep"),
+            McFault::Timeline => Reason::of(34, "Timeline"),
+            McFault::NoMemory => Reason::of(70, "NoMemory"),
+            McFault::NoRoom => Reason::of(71, "NoRoom"),
         }
     }
 }

@@ -47,7 +47,8 @@ fn expect_heading(rt: &impl Abort, alloc: Global, lines: &[u8], name: &[u8], gen
 /// Stops the test where the text isn't refused by this number with this line, or for 0 read.
 fn expect_outcome(rt: &impl Abort, alloc: Global, text: &[u8], number: u8, line: Option<u64>) {
     let fault: Option<McFault> = read_macrocell(alloc, text).err();
-    let found = fault.map_or((0, None), |fault| (fault.number(), fault.place()));
+    let reason = fault.map(|fault| fault.reason());
+    let found = reason.map_or((0, None), |reason| (reason.number, reason.place));
     same(rt, &found, &(number, line), &text);
 }
 

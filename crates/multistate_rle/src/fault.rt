@@ -2,7 +2,7 @@
 ghost use Rattle.std.specs.Prelude.{◌≡◌};
 ghost use Rattle.multistate_rle.specs.declared.fault.RleFault.TheVariants.{NoMemory};
 
-use basics::Refusal;
+use basics::{Reason, Refusal};
 use std::alloc::{AllocError, AllocFailed};
 use thiserror::Error;
 
@@ -58,34 +58,15 @@ impl Refusal for RleFault {
 
     ghost place_of = { fault_place };
 
-    fn number(&self) -> u8 {
+    fn reason(&self) -> Reason {
         match self {
-            RleFault::NoHeader => 20,
-            RleFault::BadHeader => 21,
-            RleFault::BadRun(_) => 22,
-            RleFault::BoundedGrid => 23,
-            RleFault::TooManyLive => 24,
-            RleFault::CellOutOfRange => 41,
-            RleFault::NoMemory => 70,
-        }
-    }
-
-    fn name(&self) -> &'static str {
-        match self {
-            RleFault::NoHeader => "NoHeader",
-            RleFault::BadHeader => "BadHeader",
-            RleFault::BadRun(_) => "BadRun",
-            RleFault::BoundedGrid => "BoundedGrid",
-            RleFault::TooManyLive => "TooManyLive",
-            RleFault::CellOutOfRange => "CellOutOfRange",
-            RleFault::NoMemory => "NoMemory",
-        }
-    }
-
-    fn place(&self) -> Option<u64> {
-        match self {
-            RleFault::BadRun(offset) => Some(*offset),
-            _ => None,
+            RleFault::NoHeader => Reason::of(20, "NoHeader"),
+            RleFault::BadHeader => Reason::of(21, "BadHeader"),
+            RleFault::BadRun(offset) => Reason::at(22, "BadRun", *offset),
+            RleFault::BoundedGrid => Reason::of(23, "BoundedGrid"),
+            RleFault::TooManyLive => Reason::of(24, "TooManyLive"),
+            RleFault::CellOutOfRange => Reason::of(41, "CellOutOfRange"),
+            RleFault::NoMemory => Reason::of(70, "NoMemory"),
         }
     }
 }

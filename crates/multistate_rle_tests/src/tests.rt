@@ -58,6 +58,7 @@ fn expect_read(
 /// Stops the test where the text isn't refused by this number with this offset, or for 0 read.
 fn expect_outcome(rt: &impl Abort, alloc: Global, text: &[u8], number: u8, place: Option<u64>) {
     let fault: Option<RleFault> = read_rle(alloc, text).err();
-    let found = fault.map_or((0, None), |fault| (fault.number(), fault.place()));
+    let reason = fault.map(|fault| fault.reason());
+    let found = reason.map_or((0, None), |reason| (reason.number, reason.place));
     same(rt, &found, &(number, place), &text);
 }

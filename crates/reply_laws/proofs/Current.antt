@@ -74,7 +74,7 @@ listed_shown (Some b) (Expected job) there = refl
 listed_shown (Some b) (Known bytes) there = refl
 
 refused_tells : (d : BookState) (r : Reply) → IsRefused r → (fault : Fault) × (reply_text d r ≡ refused_text fault)
-refused_tells d (reply.Refused number name place) h = (fault_of number name.now place, refl)
+refused_tells d (reply.Refused reason) h = (fault_of reason.number reason.name.now reason.place, refl)
 refused_tells d (reply.Accepted revision word number) h = absurd h
 refused_tells d reply.Settled h = absurd h
 refused_tells d reply.Working h = absurd h

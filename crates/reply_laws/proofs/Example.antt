@@ -34,7 +34,7 @@ works : (p : PostView) → AnswersAt (Obey command.Work, only (opening 0) workin
 works p = record {
   reply = reply.Working;
   gives = refl;
-  left = record { by = learned_none p; pending = tt; jobs = λ takes. absurd takes; silent = λ _. refl };
+  left = record { by = learned_none p; pending = tt; jobs = λ takes. absurd takes; silent = λ _. refl; kind = refl };
 }
 
 settles : (p : PostView) → AnswersAt (Obey command.Settle, only (opening 0) settled_text) (here p) (here p)
@@ -44,8 +44,9 @@ settles p = record {
   left = record {
     by = (learned_none p, tt);
     pending = tt;
-    jobs = λ _. record { later = []; gave = sym (append-nil p.answers); leaves = refl };
+    jobs = λ _. record { later = []; gave = sym (append-nil p.answers); leaves = refl; prompt = λ _. tt };
     silent = λ _. refl;
+    kind = refl;
   };
 }
 
@@ -53,7 +54,7 @@ lists : (p : PostView) → AnswersAt (Obey command.List, only (opening 0) listed
 lists p = record {
   reply = reply.Listed;
   gives = refl;
-  left = record { by = (refl, refl); pending = tt; jobs = λ takes. absurd takes; silent = λ _. refl };
+  left = record { by = (refl, refl); pending = tt; jobs = λ takes. absurd takes; silent = λ _. refl; kind = refl };
 }
 
 shows : (p : PostView)
@@ -68,8 +69,10 @@ shows p = record {
       later = [];
       gave = sym (append-nil p.answers);
       leaves = λ pending. absurd (cc pending.there);
+      prompt = λ _. tt;
     };
     silent = λ _. refl;
+    kind = refl;
   };
 }
 

@@ -8,7 +8,8 @@ pub use Rattle.desk_script.specs.ReadsBack.{AreWritten, IsCount, IsWritten, IsWr
 pub use Rattle.desk_script.specs.declared.command.Command.{Command}
 pub use Rattle.desk_script.specs.declared.fault.ScriptFault.TheVariants.{BadCommand, NoEnd}
 pub use Rattle.desk_script.specs.declared.format.Format.{Format}
-pub use Rattle.desk_server.specs.Answer.{After, Session, accepted, answer, edited, edited_as, id_word, listed, obeyed, only, opening_session, polled, refused, rule_text_after, scripted, session_after, settled, shown, shown_id, started, taken, unless_fault}
+pub use Rattle.desk_server.specs.Answer.{After, Session, accepted, answer, edited, edited_as, id_word, listed, obeyed, only, opening_session, polled}
+pub use Rattle.desk_server.specs.Answer.{refused, rule_text_after, scripted, session_after, settled, shown, shown_id, started, taken, unless_fault}
 pub use Rattle.desk_server.specs.Answer.{unless_memory, unless_unread}
 pub use Rattle.desk_server.specs.Faults.{Fault, of_edit, of_macrocell, of_pattern, of_rule, of_script}
 pub use Rattle.desk_server.specs.Script.{afters, documents_of, documents_with, first_shortage, later_shortages}

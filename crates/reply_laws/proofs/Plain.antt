@@ -13,7 +13,7 @@ use Rattle.desk_core.specs.declared.cause.Cause.{Cause}
 use Rattle.desk_events.specs.Wanted.{bookmark_in}
 use Rattle.desk_script.specs.declared.command.Command.TheVariants as command
 use Rattle.desk_server.specs.Reply.{unsettled_text, settled_text, polled_text}
-use Rattle.desk_script.specs.Listed.{bookmark_line, branch_line, intervention_line, lines_of, listed_text}
+use Rattle.desk_server.specs.Listed.{bookmark_line, branch_line, intervention_line, lines_of, listed_text}
 use Rattle.reply_laws.specs.Plain.{ShowsShortage, NoneShows}
 
 -- an answer is the plain one, or its reply shows the shortage

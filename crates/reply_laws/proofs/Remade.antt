@@ -1,7 +1,8 @@
 -- The script of a document makes it anew.
 use Rattle.reply_laws.proofs.Names.{AllBelow, AllByRecursion, Ask, Asked, Between, Bool, CanBeWritten, Changed, End, Ended, Format, HasMargin, HasText, InText, IsAccepted, IsDigit, IsInside, IsName, IsSound, IsVisible, IsWritten, List}
 use Rattle.reply_laws.proofs.Names.{Loaded, MakesAnew, NoLineFeed, NoShortage, None, NoneEnds, Obey, Ok, Option, Plan, ReplaceRule, ReplaceStart, ScriptsMakeAnew, Session, Some, Take, World, [], accepted, afters, all_so, answer, ap}
-use Rattle.reply_laws.proofs.Names.{append_assoc, arith, asked_of, asks, changed, codes, cond, decimal, differs, digit-visible, edited, edited_as, edits_for, false, filter, format_of, full_line, get_or, id_word, ints, is_end, is_passed_over}
+use Rattle.reply_laws.proofs.Names.{append_assoc, arith, asked_of, asks, changed, codes, cond, decimal, differs, digit-visible, edited, edited_as}
+use Rattle.reply_laws.proofs.Names.{edits_for, false, filter, format_of, full_line, get_or, id_word, ints, is_end, is_passed_over}
 use Rattle.reply_laws.proofs.Names.{is_word, join_with_byte, last_plan, length, line-first, lines_until, map, name_of, of_edit, of_macrocell, of_rule, onto_first, opening, opening_session, printed-tested, raw_bytes, refl, refusal}
 use Rattle.reply_laws.proofs.Names.{row_edits, rule_of, session_after, slice_split, squashed, started, subst, sym, text_of_lines, true, unless_fault, unless_refused, visible-printed, ℕ, ℤ, ◌++◌, ◌+◌, ◌<◌, ◌==◌, ◌^◌, ◌∙◌, ◌∷◌, ◌≡◌, ◌≢◌, ◌≤◌}
 use Rattle.std.proofs.lemmas.Slice.Eq.{bytes_eq-Decides}

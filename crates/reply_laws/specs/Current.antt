@@ -9,7 +9,7 @@ use Rattle.dependency_book.specs.Core.{core_of}
 use Rattle.desk_core.specs.Run.{AreCalls}
 use Rattle.desk_script.specs.Asks.{Ask, Obey}
 use Rattle.desk_script.specs.declared.command.Command.TheVariants as command
-use Rattle.desk_script.specs.Listed.{listed_text}
+use Rattle.desk_server.specs.Listed.{listed_text}
 use Rattle.desk_server.specs.Desks.{AnswersAtDesks}
 use Rattle.desk_server.specs.Faults.{Fault, of_edit}
 use Rattle.desk_server.specs.Reply.{current_text, pending_text, refused_text}

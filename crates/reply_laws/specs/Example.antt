@@ -5,7 +5,7 @@ use Rattle.schedule.specs.Plan.{opening}
 use Rattle.revision_jobs.specs.Posted.{PostView}
 use Rattle.desk_script.specs.Asks.{Obey}
 use Rattle.desk_script.specs.declared.command.Command.TheVariants as command
-use Rattle.desk_script.specs.Listed.{listed_text}
+use Rattle.desk_server.specs.Listed.{listed_text}
 use Rattle.desk_server.specs.Answer.{only, refused}
 use Rattle.desk_server.specs.Desks.{AnswersAtDesks}
 use Rattle.desk_server.specs.Faults.{of_edit}

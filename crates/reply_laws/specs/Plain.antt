@@ -7,7 +7,7 @@ use Rattle.desk_core.specs.declared.cause.Cause.{Cause}
 use Rattle.desk_script.specs.Asks.{Ask}
 use Rattle.desk_server.specs.Faults.{of_edit}
 use Rattle.desk_server.specs.Reply.{unsettled_text, pending_text, polled_text, refused_text}
-use Rattle.desk_script.specs.Listed.{listed_text}
+use Rattle.desk_server.specs.Listed.{listed_text}
 use Rattle.desk_server.specs.Shortage.{Shortage, Unsettled, IsCausedOver, AllCausedOver}
 use Rattle.desk_server.specs.Answer.{After, Session}
 use Rattle.desk_server.specs.Script.{afters}

@@ -2,7 +2,7 @@
 ghost use Rattle.std.specs.Prelude.{◌≡◌};
 ghost use Rattle.rule_file.specs.declared.fault.RuleFault.TheVariants.{NoMemory};
 
-use basics::Refusal;
+use basics::{Reason, Refusal};
 use std::alloc::{AllocError, AllocFailed};
 use thiserror::Error;
 
@@ -79,52 +79,22 @@ impl Refusal for RuleFault {
 
     ghost place_of = { fault_place };
 
-    fn number(&self) -> u8 {
+    fn reason(&self) -> Reason {
         match self {
-            RuleFault::NoRuleLine => 1,
-            RuleFault::NoTable => 2,
-            RuleFault::MissingDescriptor => 3,
-            RuleFault::BadStates => 4,
-            RuleFault::BadNeighborhood => 5,
-            RuleFault::BadSymmetry => 6,
-            RuleFault::BadVariable(_) => 7,
-            RuleFault::BadTransition(_) => 8,
-            RuleFault::StateTooHigh(_) => 9,
-            RuleFault::FreeResult(_) => 10,
-            RuleFault::TooManyTransitions => 11,
-            RuleFault::BadTree(_) => 12,
-            RuleFault::NotQuiescent => 13,
-            RuleFault::NoMemory => 70,
-        }
-    }
-
-    fn name(&self) -> &'static str {
-        match self {
-            RuleFault::NoRuleLine => "NoRuleLine",
-            RuleFault::NoTable => "NoTable",
-            RuleFault::MissingDescriptor => "MissingDescriptor",
-            RuleFault::BadStates => "BadStates",
-            RuleFault::BadNeighborhood => "BadNeighborhood",
-            RuleFault::BadSymmetry => "BadSymmetry",
-            RuleFault::BadVariable(_) => "BadVariable",
-            RuleFault::BadTransition(_) => "BadTransition",
-            RuleFault::StateTooHigh(_) => "StateTooHigh",
-            RuleFault::FreeResult(_) => "FreeResult",
-            RuleFault::TooManyTransitions => "TooManyTransitions",
-            RuleFault::BadTree(_) => "BadTree",
-            RuleFault::NotQuiescent => "NotQuiescent",
-            RuleFault::NoMemory => "NoMemory",
-        }
-    }
-
-    fn place(&self) -> Option<u64> {
-        match self {
-            RuleFault::BadVariable(line)
-            | RuleFault::BadTransition(line)
-            | RuleFault::StateTooHigh(line)
-            | RuleFault::FreeResult(line)
-            | RuleFault::BadTree(line) => Some(*line),
-            _ => None,
+            RuleFault::NoRuleLine => Reason::of(1, "NoRuleLine"),
+            RuleFault::NoTable => Reason::of(2, "NoTable"),
+            RuleFault::MissingDescriptor => Reason::of(3, "MissingDescriptor"),
+            RuleFault::BadStates => Reason::of(4, "BadStates"),
+            RuleFault::BadNeighborhood => Reason::of(5, "BadNeighborhood"),
+            RuleFault::BadSymmetry => Reason::of(6, "BadSymmetry"),
+            RuleFault::BadVariable(line) => Reason::at(7, "BadVariable", *line),
+            RuleFault::BadTransition(line) => Reason::at(8, "BadTransition", *line),
+            RuleFault::StateTooHigh(line) => Reason::at(9, "StateTooHigh", *line),
+            RuleFault::FreeResult(line) => Reason::at(10, "FreeResult", *line),
+            RuleFault::TooManyTransitions => Reason::of(11, "TooManyTransitions"),
+            RuleFault::BadTree(line) => Reason::at(12, "BadTree", *line),
+            RuleFault::NotQuiescent => Reason::of(13, "NotQuiescent"),
+            RuleFault::NoMemory => Reason::of(70, "NoMemory"),
         }
     }
 }

@@ -37,7 +37,7 @@ fn table(rt: &impl Abort, alloc: Global, states: u16, neighborhood: &str, lines:
 fn ends(rt: &impl Abort, alloc: Global, lines: &str, wanted: Outcome) {
     let found = match read(rt, alloc, lines) {
         Ok(_) => (0, None),
-        Err(fault) => (fault.number(), fault.place()),
+        Err(fault) => (fault.reason().number, fault.reason().place),
     };
     same(rt, &found, &wanted, &lines);
 }

@@ -2,7 +2,7 @@
 ghost use Rattle.std.specs.Prelude.{◌≡◌};
 ghost use Rattle.tree_translation.specs.declared.tree_fault.TreeFault.TheVariants.{NoMemory};
 
-use basics::Refusal;
+use basics::{Reason, Refusal};
 use std::alloc::{AllocError, AllocFailed};
 use thiserror::Error;
 
@@ -42,21 +42,10 @@ impl Refusal for TreeFault {
 
     ghost place_of = { fault_place };
 
-    fn number(&self) -> u8 {
+    fn reason(&self) -> Reason {
         match self {
-            TreeFault::TreeTooLarge => 14,
-            TreeFault::NoMemory => 70,
+            TreeFault::TreeTooLarge => Reason::of(14, "TreeTooLarge"),
+            TreeFault::NoMemory => Reason::of(70, "NoMemory"),
         }
-    }
-
-    fn name(&self) -> &'static str {
-        match self {
-            TreeFault::TreeTooLarge => "TreeTooLarge",
-            TreeFault::NoMemory => "NoMemory",
-        }
-    }
-
-    fn place(&self) -> Option<u64> {
-        None
     }
 }

@@ -302,9 +302,9 @@ fn expect_fault(
     name: &str,
     text: &str,
 ) {
-    same(rt, &fault.number(), &number, &name);
-    same(rt, &fault.name(), &name, &number);
-    same(rt, &fault.place(), &None, &name);
+    same(rt, &fault.reason().number, &number, &name);
+    same(rt, &fault.reason().name, &name, &number);
+    same(rt, &fault.reason().place, &None, &name);
     let said = format!(in alloc; "{fault}").expect(rt, "memory");
     same(rt, &said.as_str(), &text, &name);
 }

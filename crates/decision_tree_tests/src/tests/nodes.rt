@@ -21,7 +21,7 @@ fn bad(line: u64) -> Outcome {
 fn expect_outcome(rt: &impl Abort, alloc: Global, text: &[u8], wanted: &Outcome) {
     let found = match read(alloc, text) {
         Ok(_) => READ,
-        Err(fault) => (fault.number(), fault.place()),
+        Err(fault) => (fault.reason().number, fault.reason().place),
     };
     same(rt, &found, wanted, &text);
 }

@@ -74,8 +74,8 @@ fn comments(rt: HostRuntime) {
 }
 
 fn expect_name(rt: &impl Abort, fault: McFault, name: &str, number: u8) {
-    same(rt, &fault.name(), &name, &number);
-    same(rt, &fault.number(), &number, &name);
+    same(rt, &fault.reason().name, &name, &number);
+    same(rt, &fault.reason().number, &number, &name);
 }
 
 #[test]

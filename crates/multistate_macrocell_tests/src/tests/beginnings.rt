@@ -42,7 +42,7 @@ fn expect_beginning(rt: &impl Abort, alloc: Global, len: usize) {
     let read: Result<Loaded, McFault> = read_mc(alloc, &WHOLE[..len.min(WHOLE.len())]);
     let found = match &read {
         Ok(_) => (0, None),
-        Err(fault) => (fault.number(), fault.place()),
+        Err(fault) => (fault.reason().number, fault.reason().place),
     };
     same(rt, &found, &fault_at(len), &len);
     if let Ok(loaded) = &read {

@@ -15,7 +15,7 @@ fn expect_cells(rt: &impl Abort, alloc: Global, text: &[u8], wanted: &[Row]) {
 /// Stops the test where the text isn't refused by this number with this line.
 fn expect_fault(rt: &impl Abort, alloc: Global, text: &[u8], number: u8, line: Option<u64>) {
     let fault: Option<McFault> = read_mc(alloc, text).err();
-    let found = fault.map(|fault| (fault.number(), fault.place()));
+    let found = fault.map(|fault| (fault.reason().number, fault.reason().place));
     same(rt, &found, &Some((number, line)), &text);
 }
 

@@ -17,9 +17,9 @@ struct Said {
 /// Stops the test where the fault says something else of itself.
 fn expect_says(rt: &impl Abort, alloc: Global, case: &Said) {
     let said = case.fault.to_string(alloc).expect(rt, "memory");
-    same(rt, &case.fault.number(), &case.number, &case.name);
-    same(rt, &case.fault.name(), &case.name, &case.number);
-    same(rt, &case.fault.place(), &case.place, &case.name);
+    same(rt, &case.fault.reason().number, &case.number, &case.name);
+    same(rt, &case.fault.reason().name, &case.name, &case.number);
+    same(rt, &case.fault.reason().place, &case.place, &case.name);
     same(rt, &said.as_str(), &case.text, &case.name);
 }
 

@@ -157,7 +157,7 @@ fn texts_again(rt: HostRuntime) {
 fn expect_gave(rt: &impl Abort, answer: Answer, number: u8) {
     let outcome = answer.into_parts().outcome;
     match outcome {
-        Outcome::Gave(fault) => same(rt, &fault.number(), &number, &"fault"),
+        Outcome::Gave(fault) => same(rt, &fault.reason().number, &number, &"fault"),
         Outcome::Plane(_) => panic!(rt; "a plane"),
         Outcome::Text(_) => panic!(rt; "a text"),
     }

@@ -83,7 +83,7 @@ fn expect_gave<P: Post>(rt: &impl Abort, post: &mut P, number: u8)
         Received::Ended => panic!(rt; "ended"),
     };
     match outcome {
-        Outcome::Gave(fault) => same(rt, &fault.number(), &number, &"fault"),
+        Outcome::Gave(fault) => same(rt, &fault.reason().number, &number, &"fault"),
         Outcome::Plane(_) => panic!(rt; "a plane"),
         Outcome::Text(_) => panic!(rt; "a text"),
     }

@@ -66,7 +66,7 @@ fn rule_of(rt: &impl Abort, alloc: Global, text: &[u8], wanted: &Outcome) -> Opt
     let read = Rule::read(alloc, text);
     let found = match &read {
         Ok(_) => (0, None),
-        Err(fault) => (fault.number(), fault.place()),
+        Err(fault) => (fault.reason().number, fault.reason().place),
     };
     same(rt, &found, wanted, &text);
     read.ok()

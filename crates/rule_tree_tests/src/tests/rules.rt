@@ -61,7 +61,7 @@ type Outcome = (u8, Option<u64>);
 fn expect_outcome(rt: &impl Abort, alloc: Global, text: &[u8], wanted: &Outcome) {
     let found = match Rule::read(alloc, text) {
         Ok(_) => (0, None),
-        Err(fault) => (fault.number(), fault.place()),
+        Err(fault) => (fault.reason().number, fault.reason().place),
     };
     same(rt, &found, wanted, &text);
 }

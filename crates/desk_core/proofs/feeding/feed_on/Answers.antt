@@ -12,7 +12,7 @@ loop-job-preserved g c =
 pub returns-in-Ok-None : goal.returns-in-Ok-None
 returns-in-Ok-None g c =
     let none = rw c.in-Ok-None.field-0-is at c.in-Ok-None.ensures.issued in
-    fed-ended _ _ _ _ _ _ none.0 none.1 c.issue.ensures.right c.loop-job.invariant.fed
+    fed-ended _ _ _ _ _ _ none c.issue.ensures.right c.loop-job.invariant.fed
 
 pub returns-in-Err : goal.returns-in-Err
 returns-in-Err g c =

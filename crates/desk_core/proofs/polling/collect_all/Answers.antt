@@ -1,5 +1,5 @@
-use Rattle.std.proofs.Common.{arith, inr, refl}
-use Rattle.desk_core.proofs.Polls.{Collects-come, given_on, many_on, nothing_more}
+use Rattle.std.proofs.Common.{ap, arith, inl, inr, length, refl}
+use Rattle.desk_core.proofs.Polls.{Collects-come, given_on, many_on, nothing_more, worked_on, worked_out}
 use Rattle.desk_core.proofs.Steps.{HasCome-first, Idles-ended, Idles-nothing}
 use Rattle.desk_core.proofs.polling.collect_all.Goals as goal
 
@@ -12,6 +12,7 @@ loop-init g c =
       given = refl;
       asked = omega arith;
       many = omega arith;
+      worked = λ prompt. inl (refl, refl);
     }
 
 pub loop-preserved : goal.loop-preserved
@@ -24,19 +25,23 @@ loop-preserved g c =
       given = given_on c.args.desk.now c.loop.desk c.collect.new.desk goes.given before.given;
       asked = let one = c.in-Answer.ensures.same.asked in let was = before.asked in omega (arith, one, was);
       many = many_on _ _ c.in-Answer.answer _ c.loop.counter c.in-Answer.ensures.answers before.many;
+      worked = worked_on (g.P.Post.view c.args.post.now) (g.P.Post.view c.loop.post) _ c.in-Answer.answer
+          c.in-Answer.ensures before.comes.kind before.worked;
     }
 
 pub returns-in-Nothing : goal.returns-in-Nothing
 returns-in-Nothing g c =
     let before = c.loop.invariant in
     nothing_more _ _ _ _ _ _ _ (Idles-nothing _ _ c.in-Nothing.ensures) c.in-Nothing.ensures.same.asked
-    before.comes before.none before.given before.asked before.many
+    before.comes before.none before.given before.asked before.many before.worked
+    (λ prompt. (c.in-Nothing.ensures.prompt prompt).0)
 
 pub returns-in-Ended : goal.returns-in-Ended
 returns-in-Ended g c =
     let before = c.loop.invariant in
     nothing_more _ _ _ _ _ _ _ (Idles-ended _ _ c.in-Ended.ensures) c.in-Ended.ensures.same.asked
-    before.comes before.none before.given before.asked before.many
+    before.comes before.none before.given before.asked before.many before.worked
+    (λ prompt. absurd (c.in-Ended.ensures.prompt prompt))
 
 pub returns : goal.returns
 returns g c =
@@ -44,3 +49,6 @@ returns g c =
     let spent = c.loop-test.false in
     Collects-come _ _ _ _ _ c.loop.counter before.comes before.none before.given before.many
     (inr (omega (arith, spent)))
+    (λ prompt. worked_out (g.P.Post.view c.args.post.now) (g.P.Post.view c.loop.post)
+    (λ same. let many = ap (λ xs. length xs) same in absurd (omega (arith, many, before.many, spent)))
+    (before.worked prompt))

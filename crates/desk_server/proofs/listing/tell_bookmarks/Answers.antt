@@ -1,5 +1,6 @@
-use Rattle.desk_server.proofs.Names.{Appends, AppendsFront, IsUnderWay, ap, bookmark_line, broken, flat_map, more, row_line, subst, sym, wrote_err, ◌∙◌}
+use Rattle.desk_server.proofs.Names.{Appends, AppendsFront, IsUnderWay, ap, bookmark_line, flat_map, row_line, subst, sym, wrote_err, ◌∙◌}
 use Rattle.desk_server.proofs.Lines.{row-line}
+use Rattle.desk_server.proofs.Told.{broken, more}
 use Rattle.desk_server.proofs.listing.tell_bookmarks.Goals as goal
 
 pub loop-bookmark-preserved : goal.loop-bookmark-preserved

@@ -1,5 +1,6 @@
-use Rattle.desk_server.proofs.Names.{AppendsFront, Wrote, arith, front_first, front_then, lines_of, refl, rules, subst, wrote_err, wrote_then}
+use Rattle.desk_server.proofs.Names.{AppendsFront, Wrote, arith, front_first, front_then, lines_of, refl, rules, subst, wrote_err}
 use Rattle.desk_server.proofs.Lines.{all-lines}
+use Rattle.desk_server.proofs.Told.{wrote_then}
 use Rattle.desk_server.proofs.listing.tell_list.Goals as goal
 
 pub returns-in_err-tell_branches-clause-bytes : goal.returns-in_err-tell_branches-clause-bytes

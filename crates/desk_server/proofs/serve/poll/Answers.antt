@@ -8,4 +8,5 @@ returns-clause-post g c = carries_served _ _ _ _ c.requires c.poll-pending.ensur
 pub returns-clause-left : goal.returns-clause-left
 returns-clause-left g c =
     let h = c.poll-pending.ensures in
-    left_polled _ _ _ _ c.poll-pending.result h.calls h.keeps h.cause h.polls
+    left_polled _ _ _ _ h.post.kind c.poll-pending.result h.calls h.keeps h.cause h.polls
+    (λ is. h.prompt (record { prompt = is; held = c.requires.out is }))

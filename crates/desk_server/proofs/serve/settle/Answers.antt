@@ -15,10 +15,11 @@ returns-in_default-clause-answer g c =
 
 pub returns-in-0-clause-left : goal.returns-in-0-clause-left
 returns-in-0-clause-left g c =
-    left_settled _ _ _ _ _ c.compute-cause.ensures.left c.compute-cause.ensures.explained (search rules)
+    let h = c.compute-cause.ensures in
+    left_settled _ _ _ _ h.post.kind _ h.left h.explained (search rules)
 
 pub returns-in_default-clause-left : goal.returns-in_default-clause-left
 returns-in_default-clause-left g c =
     let some : c.pending.result ≢ 0 = search rules in
-    left_unsettled _ _ _ _ _ _ c.compute-cause.ensures.left c.compute-cause.ensures.explained
-    c.compute-cause.ensures.given_up c.pending.ensures.count some
+    let h = c.compute-cause.ensures in
+    left_unsettled _ _ _ _ h.post.kind _ _ h.left h.explained h.given_up c.pending.ensures.count some

@@ -21,5 +21,5 @@ returns-then-ne-clause-left g c =
 
 pub returns-clause-left : goal.returns-clause-left
 returns-clause-left g c =
-    left_shown _ _ _ _ c.args.id _ (search rules) c.compute.ensures.left c.compute.ensures.explained
-    c.compute.ensures.given_up
+    let h = c.compute.ensures in
+    left_shown _ _ _ _ h.post.kind c.args.id _ (search rules) h.left h.explained h.given_up

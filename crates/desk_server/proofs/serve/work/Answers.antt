@@ -10,4 +10,4 @@ pub returns-clause-post : goal.returns-clause-post
 returns-clause-post g c = carries_served _ _ _ _ c.requires c.feed.ensures.post
 
 pub returns-clause-left : goal.returns-clause-left
-returns-clause-left g c = left_working _ _ _ _ _ c.feed.ensures.feeds
+returns-clause-left g c = left_working _ _ _ _ c.feed.ensures.post.kind _ c.feed.ensures.feeds

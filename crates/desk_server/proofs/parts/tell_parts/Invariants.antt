@@ -1,5 +1,5 @@
-use Rattle.desk_script.proofs.Names.{IsUnderWay, drop, flat_map, part_text, ◌≡◌}
-use Rattle.desk_script.proofs.part.tell_parts.Given as goal
+use Rattle.desk_server.proofs.Names.{IsUnderWay, drop, flat_map, part_text, ◌≡◌}
+use Rattle.desk_server.proofs.parts.tell_parts.Given as goal
 
 abbrev pub invariant-loop-part : goal.invariant-loop-part
 invariant-loop-part g l = record {

@@ -1,6 +1,6 @@
-use Rattle.desk_script.proofs.Names.{arith, length, part_text, wrote_err, ◌<◌, ◌∙◌}
-use Rattle.desk_script.proofs.Shared.Parts.{parts_more, parts_broken}
-use Rattle.desk_script.proofs.part.tell_parts.Goals as goal
+use Rattle.desk_server.proofs.Names.{arith, length, part_text, wrote_err, ◌<◌, ◌∙◌}
+use Rattle.desk_server.proofs.Told.{parts_more, parts_broken}
+use Rattle.desk_server.proofs.parts.tell_parts.Goals as goal
 
 pub returns-in_err-tell_part-clause-bytes : goal.returns-in_err-tell_part-clause-bytes
 returns-in_err-tell_part-clause-bytes g c =

@@ -1,5 +1,5 @@
-use Rattle.desk_script.proofs.Names.{IsUnderWay, drop, flat_map, intervention_line, ◌≡◌}
-use Rattle.desk_script.proofs.listed.tell_interventions.Given as goal
+use Rattle.desk_server.proofs.Names.{IsUnderWay, drop, flat_map, intervention_line, ◌≡◌}
+use Rattle.desk_server.proofs.listing.tell_interventions.Given as goal
 
 abbrev pub invariant-loop-intervention : goal.invariant-loop-intervention
 invariant-loop-intervention g l = record {

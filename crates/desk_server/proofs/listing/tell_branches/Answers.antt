@@ -1,6 +1,6 @@
-use Rattle.desk_script.proofs.Names.{arith, branch_line, length, wrote_err, ◌<◌, ◌∙◌}
-use Rattle.desk_script.proofs.Shared.Parts.{parts_more, parts_broken}
-use Rattle.desk_script.proofs.listed.tell_branches.Goals as goal
+use Rattle.desk_server.proofs.Names.{arith, branch_line, length, wrote_err, ◌<◌, ◌∙◌}
+use Rattle.desk_server.proofs.Told.{parts_more, parts_broken}
+use Rattle.desk_server.proofs.listing.tell_branches.Goals as goal
 
 pub returns-in_err-tell_branch-clause-bytes : goal.returns-in_err-tell_branch-clause-bytes
 returns-in_err-tell_branch-clause-bytes g c =

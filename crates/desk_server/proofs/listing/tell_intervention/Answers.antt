@@ -1,6 +1,6 @@
-use Rattle.desk_script.proofs.Names.{Wrote, rules, subst}
-use Rattle.desk_script.proofs.Listing.{every-line, once-line}
-use Rattle.desk_script.proofs.listed.tell_intervention.Goals as goal
+use Rattle.desk_server.proofs.Names.{Wrote, rules, subst}
+use Rattle.desk_server.proofs.Lines.{every-line, once-line}
+use Rattle.desk_server.proofs.listing.tell_intervention.Goals as goal
 
 pub returns-in-Once-clause-bytes : goal.returns-in-Once-clause-bytes
 returns-in-Once-clause-bytes g c =

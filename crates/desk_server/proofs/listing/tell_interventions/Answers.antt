@@ -1,6 +1,6 @@
-use Rattle.desk_script.proofs.Names.{Appends, AppendsFront, ap, arith, get_or, intervention_line, length, rules, subst, sym, wrote_err, ◌<◌, ◌∙◌, ◌≡◌}
-use Rattle.desk_script.proofs.Shared.Parts.{parts_more, parts_broken}
-use Rattle.desk_script.proofs.listed.tell_interventions.Goals as goal
+use Rattle.desk_server.proofs.Names.{Appends, AppendsFront, ap, arith, get_or, intervention_line, length, rules, subst, sym, wrote_err, ◌<◌, ◌∙◌, ◌≡◌}
+use Rattle.desk_server.proofs.Told.{parts_more, parts_broken}
+use Rattle.desk_server.proofs.listing.tell_interventions.Goals as goal
 
 pub returns-in_err-tell_intervention-clause-bytes : goal.returns-in_err-tell_intervention-clause-bytes
 returns-in_err-tell_intervention-clause-bytes g c =

@@ -1,6 +1,6 @@
 -- Lines or parts of a reply, one after the other.
-use Rattle.desk_script.proofs.Names.{Appends, AppendsFront, IsUnderWay, List, Option, Result, Wrote, [], append_assoc, arith, drop, flat_map, front_first, front_then, get_or, length, refl, subst, suc, sym, zero, ℕ, ◌++◌, ◌+◌, ◌<◌, ◌∙◌, ◌∷◌}
-use Rattle.desk_script.proofs.Names.{◌≡◌}
+use Rattle.desk_server.proofs.Names.{Appends, AppendsFront, IsUnderWay, List, Option, Result, Wrote, [], append_assoc, arith, drop, flat_map, front_first, front_then, get_or, length, refl, subst, suc, sym, zero, ℕ, ◌++◌, ◌+◌, ◌<◌, ◌∙◌, ◌∷◌}
+use Rattle.desk_server.proofs.Names.{◌≡◌}
 use Rattle.std.proofs.KnownBytes.{Appends-trans}
 
 -- what was written, and then what a call wrote

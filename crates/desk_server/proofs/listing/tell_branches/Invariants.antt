@@ -1,5 +1,5 @@
-use Rattle.desk_script.proofs.Names.{IsUnderWay, branch_line, drop, flat_map, ◌≡◌}
-use Rattle.desk_script.proofs.listed.tell_branches.Given as goal
+use Rattle.desk_server.proofs.Names.{IsUnderWay, branch_line, drop, flat_map, ◌≡◌}
+use Rattle.desk_server.proofs.listing.tell_branches.Given as goal
 
 abbrev pub invariant-loop-branch : goal.invariant-loop-branch
 invariant-loop-branch g l = record {
