@@ -1,7 +1,7 @@
 """Packs the program: `python3 packaging make PROGRAM FOLDER`, which package.sh calls.
 
     make PROGRAM FOLDER     writes a Debian package and a wheel of a proved program into a folder
-    share PROGRAM FOLDER    writes the pages of the manual and the completions, as debian/rules has it
+    share PROGRAM FOLDER    writes the pages of the manual, the completions and the documents, as debian/rules has it
 
 Prints the packages' places. Where there are none, one line on standard error says why.
 """
@@ -16,6 +16,7 @@ import program
 import release
 from binary_wheel import make_wheel
 from debian_package import check_tools, make_debian_package
+from documents import lay_documents
 from places import Lacking
 from shared_files import lay_shared_files
 
@@ -51,6 +52,7 @@ def main() -> int:
             make(given)
         else:
             lay_shared_files(given.program, release.newest(), given.folder)
+            lay_documents(given.folder)
         return 0
     except Lacking as lacking:
         print(f"package: {lacking}", file=sys.stderr)

@@ -12,7 +12,8 @@ import zipfile
 from pathlib import Path
 from typing import Dict
 
-from places import DOCUMENTS, EXAMPLES, LICENSES, NAME, NOT_PACKED, PYTHON, PYTHON_PROJECT, ROOT, run
+from documents import documents
+from places import LICENSES, NAME, NOT_PACKED, PYTHON, PYTHON_PROJECT, ROOT, run
 from program import least_glibc
 from release import Release
 from shared_files import shared_files
@@ -45,7 +46,7 @@ def make_wheel(program: Path, release: Release, folder: Path) -> Path:
     entries[f"{data}/scripts/{NAME}"] = Entry(program.read_bytes(), is_program=True)
     for place, text in shared_files(program, release).items():
         entries[f"{data}/data/share/{place}"] = Entry(text.encode())
-    for place, content in _documents().items():
+    for place, content in documents().items():
         entries[f"{data}/data/share/doc/{NAME}/{place}"] = Entry(content)
     entries[f"{info}/RECORD"] = Entry(_record(entries, f"{info}/RECORD"))
     path = folder / f"{stem}-{tag}.whl"
@@ -76,12 +77,6 @@ def _with_licenses(metadata: bytes) -> bytes:
     fields, _, description = metadata.partition(b"\n\n")
     named = "".join(f"License-File: {it}\n" for it in LICENSES)
     return fields.rstrip(b"\n") + b"\n" + named.encode() + b"\n" + description
-
-
-def _documents() -> Dict[str, bytes]:
-    """The examples and the texts beside them, by their places below the folder of documents."""
-    examples = {f"examples/{it.name}": it.read_bytes() for pattern in EXAMPLES for it in ROOT.glob(pattern)}
-    return {**examples, **{Path(it).name: (ROOT / it).read_bytes() for it in DOCUMENTS}}
 
 
 def _record(entries: Dict[str, Entry], own_place: str) -> bytes:

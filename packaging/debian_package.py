@@ -9,7 +9,7 @@ from places import DOCUMENTS, LICENSES, NAME, NOT_PACKED, ROOT, Lacking, run
 from release import Release
 
 # What the package is made of, beside the program.
-PARTS = ("debian", "packaging", "clients/python", "examples", *DOCUMENTS, *LICENSES)
+PARTS = ("debian", "packaging", "clients/python", "examples", *DOCUMENTS.values(), *LICENSES)
 # Where debian/rules takes the program.
 PROGRAM = f"crates/{NAME}/out/{NAME}"
 

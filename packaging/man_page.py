@@ -111,4 +111,5 @@ def _entry(term: str, text: str) -> List[str]:
 
 
 def _code(code: Code) -> List[str]:
-    return [".PP", ".RS 4", ".EX", *map(escaped, code.lines), ".EE", ".RE"]
+    # .EE lets words be broken again.
+    return [".PP", ".RS 4", ".EX", *map(escaped, code.lines), ".EE", NO_HYPHENS, ".RE"]

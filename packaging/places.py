@@ -10,8 +10,19 @@ ROOT = Path(__file__).resolve().parent.parent
 NAME = "desk"
 PYTHON_PROJECT = ROOT / "clients/python"
 LICENSES = ("LICENSE-MIT", "LICENSE-APACHE", "NOTICE")
-# Texts that packages have in share/doc beside the examples.
-DOCUMENTS = ("docs/USING.md", "docs/REFUSALS.md", "CHANGELOG.md")
+# Texts that packages have in share/doc beside the examples, by their names there. Debian's tools pack large ones, and
+# among the examples none.
+DOCUMENTS = {
+    "CHANGELOG.md": "CHANGELOG.md",
+    "README.md": "README.md",
+    "USING.md": "docs/USING.md",
+    "REFUSALS.md": "docs/REFUSALS.md",
+    "WALK.md": "docs/WALK.md",
+    "PATTERNS.md": "docs/PATTERNS.md",
+    "PYTHON.md": "clients/python/README.md",
+    "run.md": "clients/python/docs/run.md",
+    "examples/tour.ipynb": "docs/tour.ipynb",
+}
 EXAMPLES = tuple(f"examples/*.{ending}" for ending in ("mc", "replies", "rle", "rule", "script"))
 # What lies among the files that are packed and is no part of them.
 NOT_PACKED = shutil.ignore_patterns("tests", "build", "*.egg-info", "__pycache__")

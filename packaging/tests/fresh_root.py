@@ -6,6 +6,7 @@ of root and a network, so it is no part of the other tests.
 """
 from __future__ import annotations
 
+import contextlib
 import gzip
 import hashlib
 import os
@@ -78,6 +79,11 @@ class Root:
 
     def _is_of_tools(self, path: str) -> bool:
         return os.path.relpath(path, self.folder) in OF_TOOLS
+
+
+def take_interrupts() -> None:
+    """Lets a process be interrupted also where this one was started to ignore that, as in the background."""
+    signal.signal(signal.SIGINT, signal.SIG_DFL)
 
 
 def _held(path: Path) -> str:
@@ -170,13 +176,19 @@ class FreshRootTest(unittest.TestCase):
     def check_page(self) -> None:
         """The page answers at the address that it prints, and Ctrl-C ends it."""
         words = self.root.words(["desk-page", "--no-browser", f"{EXAMPLES}/wire.rule", f"{EXAMPLES}/wire.rle"])
-        with subprocess.Popen(words, stdout=subprocess.PIPE, text=True, start_new_session=True) as page:
-            assert page.stdout
-            address = page.stdout.readline().strip()
-            with urllib.request.urlopen(address, timeout=20) as answer:
-                self.assertIn("<title>", answer.read().decode())
-            os.killpg(page.pid, signal.SIGINT)
-            self.assertEqual(page.wait(20), 0)
+        with subprocess.Popen(words, stdout=subprocess.PIPE, text=True, start_new_session=True,
+                              preexec_fn=take_interrupts) as page:
+            try:
+                assert page.stdout
+                address = page.stdout.readline().strip()
+                with urllib.request.urlopen(address, timeout=20) as answer:
+                    self.assertIn("<title>", answer.read().decode())
+                os.killpg(page.pid, signal.SIGINT)
+                self.assertEqual(page.wait(20), 0)
+            finally:
+                # A page that is still there would else be waited for without end.
+                with contextlib.suppress(ProcessLookupError):
+                    os.killpg(page.pid, signal.SIGKILL)
 
 
 class WheelTest(FolderTest):

@@ -87,6 +87,9 @@ class BinaryWheelTest(FolderTest):
         documents = self.below(f"{self.data}/data/share/doc/desk")
         self.assertEqual(documents["examples/first_path.script"], (ROOT / "examples/first_path.script").read_bytes())
         self.assertEqual(documents["REFUSALS.md"], (ROOT / "docs/REFUSALS.md").read_bytes())
+        self.assertEqual(documents["PYTHON.md"], (ROOT / "clients/python/README.md").read_bytes())
+        named = re.findall(r"\b([A-Z]{3,}\.md)\b", "".join(documents[it].decode() for it in ("USING.md", "WALK.md")))
+        self.assertEqual({*named} - {*documents}, set(), "a text that the documents name")
 
     def test_no_file_is_dated_otherwise_than_the_release(self) -> None:
         day = release.newest().day

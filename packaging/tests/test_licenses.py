@@ -7,6 +7,7 @@ import subprocess
 import sys
 import unittest
 from pathlib import Path
+from typing import List
 
 from trials import ROOT
 
@@ -17,6 +18,14 @@ import crates, quick, toolchain
 print(toolchain.folder(), *quick.kit_libraries(it for crate in crates.crates() for it in crate.kit))
 """
 NOTICE = (ROOT / "NOTICE").read_text(encoding="utf-8")
+
+
+def libraries() -> List[Path]:
+    """The folders of the toolchain's libraries that the program is made of."""
+    words = [sys.executable, "-B", "-c", LIBRARIES]
+    said = subprocess.run(words, cwd=ROOT / "building", capture_output=True, text=True, check=True)
+    folder, *names = said.stdout.split()
+    return [Path(folder, "rattle", name) for name in names]
 
 
 def joined(text: str) -> str:
@@ -38,14 +47,11 @@ class LicensesTest(unittest.TestCase):
 
     @unittest.skipUnless(shutil.which("rt"), "there is no rt, the command of the toolchain")
     def test_notice_names_each_library_that_has_a_license(self) -> None:
-        words = [sys.executable, "-B", "-c", LIBRARIES]
-        said = subprocess.run(words, cwd=ROOT / "building", capture_output=True, text=True, check=True)
-        folder, *used = said.stdout.split()
-        licensed = {it for it in used if [*Path(folder, "rattle", it).glob("LICENSE*")]}
+        licensed = {it.name: [*it.glob("LICENSE*")] for it in libraries() if [*it.glob("LICENSE*")]}
         table = NOTICE[NOTICE.index("    library "):NOTICE.index("The toolchain's library")]
-        self.assertEqual(set(re.findall(r"^    (\w+)", table, re.M)) - {"library"}, licensed)
-        for name in licensed:
-            for path in Path(folder, "rattle", name).glob("LICENSE*"):
+        self.assertEqual(set(re.findall(r"^    (\w+)", table, re.M)) - {"library"}, {*licensed})
+        for name, paths in licensed.items():
+            for path in paths:
                 for line in re.findall(r"^Copyright \(c\).*$", path.read_text(encoding="utf-8"), re.M):
                     self.assertIn(line, table, name)
 

@@ -35,11 +35,11 @@ AWKWARD = Command("desk-awkward", Help(
              Code("Example, in a folder", (".desk-awkward 'a' \\", "'  --at \"1: 2 3\"")))))
 
 
-def shown(page: str, folder: Path) -> Tuple[str, str]:
-    """What man shows of a page, in very long lines, and what it complains of."""
+def shown(page: str, folder: Path, width: int = 9999) -> Tuple[str, str]:
+    """What man shows of a page, in lines of this width, and what it complains of."""
     path = folder / "page.1"
     path.write_text(page, encoding="utf-8")
-    environment = {**os.environ, "LC_ALL": "C.UTF-8", "MANWIDTH": "9999", "MAN_KEEP_FORMATTING": ""}
+    environment = {**os.environ, "LC_ALL": "C.UTF-8", "MANWIDTH": str(width), "MAN_KEEP_FORMATTING": ""}
     words = ["man", "--warnings", "--encoding=UTF-8", "--local-file", str(path)]
     done = subprocess.run(words, capture_output=True, text=True, env=environment, check=True, timeout=60)
     return done.stdout, done.stderr
@@ -110,6 +110,14 @@ class AwkwardTest(FolderTest):
             "SEE ALSO", "desk(1), desk-run(1)."])
         self.assertIn("DESK-AWKWARD(1)", lines[0])
         self.assertEqual(lines[-1], "desk 9.8.7 2031-02-03 DESK-AWKWARD(1)")
+
+    @unittest.skipUnless(HAS_MAN, NO_MAN)
+    def test_no_word_is_broken(self) -> None:
+        others = [f"desk-{it}" for it in ("picture", "illustration", "representation")]
+        for width in range(40, 60):
+            page, _ = shown(man_page.man_page(AWKWARD, others, RELEASE), self.folder, width)
+            self.assertNotIn("\N{HYPHEN}", page)
+            self.assertGreaterEqual(set(page.split()), {f"{it}(1)," for it in others[:-1]})
 
     def test_signs_that_roff_prints_otherwise_are_named(self) -> None:
         # As groff_char(7) has them. Debian's groff prints some of these signs as they are all the same.

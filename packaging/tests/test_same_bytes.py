@@ -11,7 +11,7 @@ from trials import FolderTest, PROGRAM, ROOT, make, packages, why_none_are_made
 WHY_NOT = why_none_are_made()
 # What is read of the repository.
 PARTS = ("packaging", "debian", "clients/python", "examples", "docs", "crates/desk_words/src")
-FILES = ("CHANGELOG.md", "LICENSE-MIT", "LICENSE-APACHE", "NOTICE")
+FILES = ("README.md", "CHANGELOG.md", "LICENSE-MIT", "LICENSE-APACHE", "NOTICE")
 
 
 @unittest.skipIf(WHY_NOT, WHY_NOT)

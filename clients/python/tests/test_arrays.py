@@ -4,7 +4,6 @@ alone by
     python3 -m unittest discover -s clients/python/tests -p test_arrays.py
 """
 import unittest
-from importlib import util
 
 from desk import Desk, Malformed, Refused, Window
 from places import PROGRAM
@@ -14,7 +13,6 @@ STILL = "@RULE All\n@TABLE\nn_states:256\nneighborhood:vonNeumann\nsymmetries:no
 X_RULE = (
     "@RULE X\n@TABLE\nn_states:2\nneighborhood:oneDimensional\nsymmetries:none\n0,1,0,1\n0,0,1,1\n1,0,0,0\n1,1,1,0\n"
 )
-HAS_NUMPY = bool(util.find_spec("numpy"))
 
 
 class ArraysTest(unittest.TestCase):
@@ -104,26 +102,6 @@ class ArraysTest(unittest.TestCase):
         self.assertEqual(caught.exception.of, "an array")
         with self.assertRaises(Refused):
             self.desk.at(1, [[1] * 101] * 100, 0, 0)
-
-    @unittest.skipUnless(HAS_NUMPY, "there is no numpy")
-    def test_arrays_of_numpy(self):
-        import numpy
-
-        desk, states = self.desk, numpy.arange(6).reshape(2, 3)
-        for array in (states, states.astype(numpy.uint8), states.T, states[:, ::-1], states > 2):
-            wanted = array.astype(int).tolist()
-            with self.subTest(wanted):
-                desk.start(array, 1, 1)
-                self.assertEqual(self.seen(1, 1, len(wanted[0]), len(wanted)), wanted)
-                desk.start([])
-                desk.set(array, 1, 1)
-                shown = desk.show(desk.mark(0, Window(1, 1, len(wanted[0]), len(wanted))), as_array=True)
-                self.assertEqual(shown.tolist(), wanted)
-        for array, word in ((states / 2, "has to be an integer"), (numpy.arange(3), "rows"), (states[None], "a state")):
-            with self.subTest(word), self.assertRaisesRegex(Malformed, word):
-                desk.start(array)
-        desk.set(numpy.array([[7, 7, 1], [8, 7, 2]]))  # without a place these are two cells
-        self.assertEqual(self.seen(7, 7, 2, 1), [[1, 2]])
 
 
 if __name__ == "__main__":

@@ -386,6 +386,11 @@ class PictureTest(WithFiles):
         again = called("picture.py", "examples/wire.rule", "examples/wire.rle", "--at", "1e0", "--window", 0, 0, 3, 2)
         self.assertEqual((again.returncode, again.stdout), (0, run.stdout), again.stderr)
 
+    def test_letters_in_a_pipe_are_not_bound_by_a_terminal(self):
+        run = called("picture.py", "examples/brain.rle", "--at", 0, "--window", 0, 0, 200, 100)
+        self.assertEqual([len(line) for line in run.stdout.splitlines()], [200] * 100, run.stderr)
+        self.assertIn("200 by 100 from (0, 0)\n", run.stderr)
+
     def test_a_png_on_standard_output(self):
         words = ["examples/wire.rle", "--at", "2^4", "--png", "-", "--desk", PROGRAM]
         run = subprocess.run([CLIENTS / "picture.py", *words], cwd=ROOT, capture_output=True, timeout=50)
@@ -446,13 +451,11 @@ class DocumentsTest(unittest.TestCase):
         for path in sorted(ROOT.glob("crates/*/src/*.rt")):
             text = path.read_text(encoding="utf-8")
             for fault in re.findall(r"impl Refusal for (\w+)", text):
-                numbers = dict(re.findall(rf"{fault}::(\w+)(?:\(_\))? => (\d+),", text))
-                names = dict(re.findall(rf"{fault}::(\w+)(?:\(_\))? => \"(\w+)\"", text))
-                placed = set(re.findall(rf"{fault}::(\w+)\((?:line|offset)\)", text))
-                self.assertEqual(set(numbers), set(names), path)
                 of = "text byte" if fault == "RleFault" else "script line" if fault == "ScriptFault" else "text line"
-                for variant, number in numbers.items():
-                    wanted.setdefault(int(number), set()).add((names[variant], of if variant in placed else "-"))
+                told = re.findall(rf"{fault}::\w+(?:\(\w+\))? => Reason::(of|at)\((\d+), \"(\w+)\"", text)
+                self.assertTrue(told, path)
+                for made, number, name in told:
+                    wanted.setdefault(int(number), set()).add((name, of if made == "at" else "-"))
             code += text
         self.assertIn("Cause::NumbersSpent => 73", code)
         found = {int(number): {(name, place)} for number, name, place, *_ in rows_of(REFUSALS)}

@@ -19,7 +19,7 @@ from desk.rules.reader import rule_of
 from places import EXAMPLES, ROOT
 from test_rule_reader import SEED, first_match, table
 
-sys.path.append(str(ROOT / "model"))
+sys.path.insert(0, str(ROOT / "model"))
 import random_rules  # noqa: E402
 import refusals  # noqa: E402
 import rule_files  # noqa: E402

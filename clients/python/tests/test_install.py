@@ -2,20 +2,20 @@
 alone by
 
     python3 -m unittest discover -s clients/python/tests -p test_install.py
+
+What needs pip takes this Python or /usr/bin/python3, whichever has it with setuptools and wheel.
 """
 import os
 import shutil
 import subprocess
-import sys
 import tempfile
 import unittest
-from importlib import util
 from pathlib import Path
 
 import desk
-from places import CLIENTS, PACKAGE, PROGRAM
+from places import CLIENTS, PACKAGE, PROGRAM, python_with
 
-CAN_BUILD = all(map(util.find_spec, ("pip", "setuptools", "wheel")))
+BUILDER = python_with("pip", "setuptools", "wheel")
 ALONE = """\
 import desk
 with desk.Desk() as it:
@@ -34,12 +34,12 @@ class InstallTest(unittest.TestCase):
         self.assertEqual([it for it in desk.__all__ if not hasattr(desk, it)], [])
         self.assertEqual(sorted(set(desk.__all__), key=str.lower), sorted(desk.__all__, key=str.lower))
 
-    @unittest.skipUnless(CAN_BUILD, "there is no pip, no setuptools or no wheel")
+    @unittest.skipUnless(BUILDER, "there is no pip, no setuptools or no wheel")
     def test_it_works_where_it_is_installed(self):
         with tempfile.TemporaryDirectory() as folder:
             source, target = Path(folder) / "source", Path(folder) / "target"
             shutil.copytree(CLIENTS, source, ignore=shutil.ignore_patterns("tests", "__pycache__", "*.egg-info"))
-            pip = [sys.executable, "-m", "pip", "install", "--quiet", "--disable-pip-version-check", "--no-index"]
+            pip = [BUILDER, "-m", "pip", "install", "--quiet", "--disable-pip-version-check", "--no-index"]
             words = ["--no-build-isolation", "--target", str(target), str(source)]
             run = subprocess.run([*pip, *words], capture_output=True, text=True, timeout=100)
             self.assertEqual(run.returncode, 0, run.stderr)
@@ -47,9 +47,9 @@ class InstallTest(unittest.TestCase):
             self.assertEqual(there, {"bin", "desk", f"desk-{desk.__version__}.dist-info"})
             self.assertEqual(files_below(target / "desk"), files_below(PACKAGE / "desk"))
             places = {**os.environ, "PYTHONPATH": str(target), "DESK": PROGRAM}
-            said = subprocess.run([sys.executable, "-c", ALONE], env=places, cwd=folder, capture_output=True, text=True)
+            said = subprocess.run([BUILDER, "-c", ALONE], env=places, cwd=folder, capture_output=True, text=True)
             self.assertEqual(said.stdout, f"{{}} {desk.__version__} {target}/desk/__init__.py\n", said.stderr)
-            for name in ("run", "page", "sweep", "curve", "picture"):
+            for name in ("run", "page", "sweep", "curve", "picture", "lines"):
                 words = [target / f"bin/desk-{name}", "--help"]
                 said = subprocess.run(words, env=places, capture_output=True, text=True)
                 self.assertIn(f"usage: desk-{name} ", said.stdout, said.stderr)

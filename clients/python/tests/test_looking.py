@@ -9,7 +9,6 @@ import tempfile
 import threading
 import time
 import unittest
-from importlib import util
 from pathlib import Path
 from unittest import mock
 
@@ -248,24 +247,6 @@ class ArrayTest(WithBrain):
                 with self.assertRaisesRegex(Trouble, "no numpy"):
                     call(bookmark, as_array=True)
         self.assertIsNone(self.desk.peek(bookmark))
-
-    @unittest.skipUnless(util.find_spec("numpy"), "there is no numpy")
-    def test_arrays(self):
-        desk = self.desk
-        window, counts, text = (desk.mark(2, it) for it in (Window(-2, -2, 6, 5), "counts", "rle"))
-        rows, numbers = desk.show(window), desk.show(counts)
-        for call in (desk.show, desk.peek):
-            found = call(window, as_array=True)
-            self.assertEqual((found.shape, str(found.dtype), found.tolist()), ((5, 6), "uint8", rows))
-            found = call(counts, as_array=True)
-            self.assertEqual((str(found.dtype), dict(found.tolist())), ("int64", numbers))
-            with self.assertRaisesRegex(Trouble, "no array"):
-                call(text, as_array=True)
-        desk.start(str(EXAMPLES / "doubling.mc"))
-        self.assertEqual(desk.show(desk.mark(0, "counts"), as_array=True).tolist(), [[1, 2**122]])
-        desk.set([(it, 0, 0) for it in range(3)])
-        with Desk(PROGRAM) as fresh:
-            self.assertEqual(fresh.show(fresh.mark(0, "counts"), as_array=True).shape, (0, 2))
 
 
 if __name__ == "__main__":

@@ -19,7 +19,7 @@ from unittest import mock
 from desk import Desk, Malformed, Pending, Refused, Trouble, Window
 from desk.formats.macrocell import Frame
 from desk.formats.rle import Run, RunLengths
-from places import EXAMPLES, PROGRAM, WITH_PACKAGE
+from places import EXAMPLES, PROGRAM, WITH_PACKAGE, python_with
 
 # A line of Rule 90: of one cell there are 2 to the number of ones in the generation's binary digits.
 X_RULE = (
@@ -42,18 +42,6 @@ def pixels(png):
     palette, data = chunks[b"PLTE"], zlib.decompress(chunks[b"IDAT"])
     lines = [data[it * (width + 1) + 1:(it + 1) * (width + 1)] for it in range(height)]
     return [[tuple(palette[3 * it:3 * it + 3]) for it in line] for line in lines]
-
-
-def python_with(module):
-    """This Python or Debian's, whichever has a module, or None."""
-    for python in dict.fromkeys((sys.executable, "/usr/bin/python3")):
-        run = [python, "-c", f"import {module}"]
-        try:
-            if subprocess.run(run, capture_output=True, timeout=50).returncode == 0:
-                return python
-        except OSError:
-            pass
-    return None
 
 
 def said_by(python, program):
@@ -297,7 +285,7 @@ class CurveTest(WithDesk):
             curve.as_array()
 
     def test_it_is_drawn_and_leaves_the_figures_of_others_alone(self):
-        python = python_with("matplotlib, numpy")
+        python = python_with("matplotlib", "numpy")
         if not python:
             self.skipTest("there is no matplotlib or no numpy")
         said = said_by(python, """

@@ -500,6 +500,15 @@ class ScriptTest(unittest.TestCase):
         self.assertIn("apt-get install python3-aiohttp", run.stderr)
 
     @unittest.skipUnless(aiohttp, f"there is no aiohttp; {SETUP}")
+    def test_page_py_finds_the_rule_beside_the_pattern(self):
+        words = [sys.executable, "-B", str(CLIENTS / "page.py"), str(EXAMPLES / "wire.rle"), "--no-browser"]
+        with subprocess.Popen([*words, "--desk", PROGRAM], stdout=subprocess.PIPE, stderr=subprocess.PIPE, text=True,
+                              cwd="/") as run:
+            self.assertRegex(run.stdout.readline(), "^http:")
+            run.send_signal(signal.SIGINT)
+            self.assertEqual(run.wait(20), 0, run.stderr.read())
+
+    @unittest.skipUnless(aiohttp, f"there is no aiohttp; {SETUP}")
     def test_page_py_prints_its_address_and_ends_by_an_interrupt(self):
         files = (str(EXAMPLES / it) for it in ("wire.rule", "wire.rle"))
         words = [sys.executable, "-B", str(CLIENTS / "page.py"), *files, "--no-browser", "--desk", PROGRAM]

@@ -215,10 +215,10 @@ class DrawingTest(InBrowser):
 
     def test_stamps_are_kept_placed_and_removed(self):
         self.wire()
-        self.press("t")
-        self.until("document.getElementById('shelf').open")
         self.select(1, 0, 3, 0)
         self.js("document.querySelector('#shelf input').value = 'electron'")
+        self.press("t")
+        self.until("document.getElementById('shelf').open && document.activeElement.matches('summary')")
         self.press("v")
         self.until("document.querySelector('.stamps li')?.textContent.includes('electron')")
         self.assertEqual([it.name for it in (self.folder / "state/desk/stamps").iterdir()], ["electron.rle"])

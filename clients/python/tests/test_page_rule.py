@@ -312,7 +312,8 @@ class EditorTests:
         self.assertEqual(names[1], "state 0: nothing")
         self.press(Keys.ESCAPE)
         self.js("document.activeElement.blur()")
-        self.press("z", "z")
+        # On a busy machine the cleared name is taken before the new one, and is an edit too.
+        self.press(*"z" * self.js("return app.state.undo"))
         self.until("app.state.undo === 0 && app.state.colors[2].join() === '255,255,255'")
         self.until("document.querySelector('#rule .swatches li[data-state=\"2\"] input').value === '#ffffff'")
 

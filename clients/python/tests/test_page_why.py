@@ -89,7 +89,8 @@ class WhyTest(InBrowser):
         return self.words()
 
     def words(self):
-        self.until("document.querySelector('#why .said, #why .mistake') && !document.querySelector('#why .hatched')")
+        self.until("document.querySelector('#why .said, #why .mistake') && !document.querySelector('#why .hatched')"
+                   " && document.querySelector('#why').innerText.includes(`(${app.why.cell.x}, ${app.why.cell.y})`)")
         return self.js("return document.querySelector('#why').innerText.replaceAll('\\u00a0', ' ')")
 
     def tiles(self):

@@ -6,9 +6,8 @@ from importlib import util
 from pathlib import Path
 
 from desk.rules.lifelike import rule_text
-from places import WITH_PACKAGE
+from places import DEBIAN, WITH_PACKAGE
 
-DEBIAN = "/usr/bin/python3"
 SETUP = "clients/python/tests/setup.sh installs it"
 LIFE = rule_text("B3/S23").encode()
 BLINKER = b"#CXRLE Pos=-1,0\nx = 3, y = 1\n3o!\n"

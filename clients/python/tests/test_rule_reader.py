@@ -13,7 +13,7 @@ from desk.rules.reader import rule_of
 from desk.rules.reasons import ByLine, ByTree, Stays
 from places import EXAMPLES, PROGRAM, ROOT
 
-sys.path.append(str(ROOT / "model"))
+sys.path.insert(0, str(ROOT / "model"))
 import random_rules  # noqa: E402
 import refusals  # noqa: E402
 import rule_files  # noqa: E402

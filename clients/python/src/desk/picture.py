@@ -32,7 +32,7 @@ exit status:
   2    the words of the command line are refused
   130  it was broken off by Ctrl-C
 """
-MOST_PIXELS = 1024  # a side of a PNG
+MOST_PIXELS = 1024  # a side of a PNG, or of letters that go to a file or a pipe
 
 
 def blocks(rows: List[List[int]], colors: List[Color]) -> str:
@@ -73,9 +73,12 @@ def main() -> int:
     given = words()
     warnings.showwarning = lambda text, *_: say(str(text))
     window = Window(*given.window) if given.window else None
-    screen = shutil.get_terminal_size()
-    is_colored = sys.stdout.isatty() and "NO_COLOR" not in os.environ and os.environ.get("TERM") != "dumb"
-    most = (MOST_PIXELS, MOST_PIXELS) if given.png else (screen.columns, (screen.lines - 2) * (2 if is_colored else 1))
+    is_terminal = sys.stdout.isatty()
+    is_colored = is_terminal and "NO_COLOR" not in os.environ and os.environ.get("TERM") != "dumb"
+    most = MOST_PIXELS, MOST_PIXELS
+    if is_terminal and not given.png:
+        screen = shutil.get_terminal_size()
+        most = screen.columns, (screen.lines - 2) * (2 if is_colored else 1)
     try:
         rule = rule_of_file(given.pattern, given.rule)
         if not given.rule:

@@ -62,7 +62,8 @@ async def serve(given: argparse.Namespace) -> None:
     try:
         await session.begin()
         if given.files:
-            await take(session, [(os.path.basename(path), text_of(path)) for path in given.files])
+            files = [(os.path.basename(path), text_of(path)) for path in given.files]
+            await take(session, files, beside=given.files[0])
         session.past.clear()
         session.now_saved()
         await page.begin(given.port)

@@ -12,17 +12,17 @@ from ..rules.names import is_same
 from .document import File
 
 
-def rule_of_name(name: str) -> File:
-    """The rule of a name, as all commands find it. Trouble: there is none, with why and what helps."""
-    found = rule_named(name)
+def rule_of_name(name: str, beside: Optional[str] = None) -> File:
+    """The rule of a name, as all commands find it, beside a pattern's file too. Trouble: there is none, with why."""
+    found = rule_named(name, beside)
     return File("rule", found.name, found.text)
 
 
 @lru_cache(maxsize=16)  # it is asked for whenever tabs are told of the experiment
-def why_not(name: str) -> str:
+def why_not(name: str, beside: Optional[str] = None) -> str:
     """Why the rule of a name can't be had, or an empty text where it can."""
     try:
-        rule_of_name(name)
+        rule_of_name(name, beside)
     except Trouble as trouble:
         return str(trouble)
     return ""

@@ -52,15 +52,18 @@ def given(files: Iterable[Sent]) -> Given:
     return Given(next(iter(rules), None), next(iter(starts), None), next(iter(scripts), None))
 
 
-async def take(session: Session, files: Sequence[Sent], fit: str = "") -> Message:
-    """Takes files as one edit: all of them, or none where one is refused."""
+async def take(session: Session, files: Sequence[Sent], fit: str = "", beside: Optional[str] = None) -> Message:
+    """Takes files as one edit: all of them, or none where one is refused.
+
+    beside: the path of a pattern's file, where that is known: the rule that its header names may lie there
+    """
     found = await asyncio.to_thread(given, files)
     if found.script:
         return await open_script(session, *found.script)
     rule = found.rule
     named = named_rule(found.start)
-    if named and not rule and (fit == "header" or session.document.rule is None and not why_not(named)):
-        rule = await asyncio.to_thread(rule_of_name, named)
+    if named and not rule and (fit == "header" or session.document.rule is None and not why_not(named, beside)):
+        rule = await asyncio.to_thread(rule_of_name, named, beside)
 
     def make(old: Document) -> Document:
         new = old._replace(rule=rule or old.rule)

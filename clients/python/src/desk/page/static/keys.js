@@ -34,8 +34,8 @@ export function bindKeys(app) {
   addEventListener("click", (event) => { if (event.detail) event.target.closest("button")?.blur(); });
   addEventListener("keydown", (event) => {
     if (event.target.closest("dialog")) return;
-    const isTyping = event.target.closest("input, select, textarea, summary");
-    const isPress = event.target.closest("button, a");
+    const isTyping = event.target.closest("input, select, textarea");
+    const isPress = event.target.closest("button, a, summary");
     if (isTyping && event.target.type !== "checkbox" && event.key !== "Escape" || event.altKey || event.metaKey) return;
     if (isPress && [" ", "Enter"].includes(event.key)) return;
     const key = event.key.length === 1 ? event.key.toLowerCase() : event.key;
