@@ -23,8 +23,9 @@ PROGRAM = os.path.realpath(sys.argv[1] if len(sys.argv) > 1 else f"{ROOT}/crates
 
 SHORT = "mark 0 counts\nsettle\nquit\n"
 # A settling of the soup takes so many seconds at least; a larger soup is taken where it doesn't.
-LEAST_SECONDS, SIDES = 3.5, (128, 192, 256, 384, 512, 768)
+LEAST_SECONDS, SIDES = 3.5, (128, 256, 512, 768, 1024, 1536, 2048, 3072)
 SECONDS = 120
+TRIES = 3
 # So long a program is left alone behind a reply. A line would come back within a second.
 SECONDS_ALONE = 3
 # A program whose end waited for its viewer's second would take longer than this each time.
@@ -207,17 +208,27 @@ CASES = [
 ]
 
 
+def fault_of(case):
+    """What a case finds wrong each time that it is tried, or nothing. Each time a soup is sought anew, since one that
+    took long enough on a busy machine may not do so later.
+    """
+    found = ""
+    for _ in range(TRIES):
+        try:
+            case()
+            return ""
+        except (Wrong, OSError, subprocess.TimeoutExpired) as error:
+            found = str(error)
+            SOUP.clear()
+    return found
+
+
 def main():
     passed = 0
     for case in CASES:
-        name = case.__name__.replace("_", " ")
-        try:
-            case()
-        except (Wrong, OSError, subprocess.TimeoutExpired) as error:
-            print(f"{name}: FAILED, {error}", flush=True)
-        else:
-            print(f"{name}: passed", flush=True)
-            passed += 1
+        name, fault = case.__name__.replace("_", " "), fault_of(case)
+        print(f"{name}: FAILED, {fault}" if fault else f"{name}: passed", flush=True)
+        passed += not fault
     print(f"progress: {passed} passed, {len(CASES) - passed} failed")
     return 0 if passed == len(CASES) else 1
 

@@ -17,7 +17,7 @@ RULE_X = (
 )
 
 # Their patterns have more cells, or are wanted later, than can be said cell by cell.
-BEYOND = {"doubling.script", "far_ahead.script"}
+BEYOND = {"doubling.script", "far_ahead.script", "soup.script"}
 
 
 def replied(script):

@@ -9,5 +9,5 @@ import sys
 from pathlib import Path
 
 ROOT = Path(__file__).resolve().parents[2]
-for _place in ("hostile", "model", "clients/python/src", "clients/python/tests"):
-    sys.path.append(str(ROOT / _place))
+# Before all else, since a package of the system may have a module of the same name.
+sys.path[:0] = [str(ROOT / place) for place in ("hostile", "model", "clients/python/src", "clients/python/tests")]

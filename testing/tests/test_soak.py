@@ -96,6 +96,13 @@ class SoakTest(unittest.TestCase):
         _, said, rows = self.ended("0.0005", "--part", "scripts", "--jobs", "1")  # another program: counted anew
         self.assertEqual(rows["random scripts, compared with the model"][1:], (f"{seed} to {self.next() - 1}", 0), said)
 
+    def test_modules_of_the_repository_go_before_installed_ones_of_their_name(self):
+        (self.folder / "tables.py").write_text("")
+        words = [sys.executable, "-B", "-c", "import soak, tables; print(tables.__file__)"]
+        path = os.pathsep.join([str(ROOT / "testing"), str(self.folder)])
+        run = subprocess.run(words, env={**os.environ, "PYTHONPATH": path}, capture_output=True, text=True, timeout=60)
+        self.assertEqual(run.stdout, f"{ROOT / 'model/tables.py'}\n", run.stderr)
+
     @unittest.skipUnless(MYPY and FLAKE8, "there is no mypy or no flake8 (Debian: mypy flake8)")
     def test_its_types_and_style(self):
         for words in ([MYPY, "--config-file", "testing/mypy.ini", "--cache-dir", os.devnull, "testing/soak"],
