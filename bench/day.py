@@ -17,8 +17,8 @@ import time
 from pathlib import Path
 from typing import List
 
-sys.path.append(str(Path(__file__).resolve().parents[1] / "clients/python/src"))
-sys.path.append(str(Path(__file__).resolve().parents[1] / "hostile"))
+sys.path.insert(0, str(Path(__file__).resolve().parents[1] / "clients/python/src"))
+sys.path.insert(0, str(Path(__file__).resolve().parents[1] / "hostile"))
 
 from desk.page.document import Bookmark, Document, File  # noqa: E402
 from desk.page.painting import Place, painted  # noqa: E402

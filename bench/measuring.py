@@ -3,7 +3,9 @@ import argparse
 import gzip
 import os
 import random
+import shutil
 import subprocess
+import sys
 import tempfile
 import time
 
@@ -54,16 +56,30 @@ def words_of(doc, golly=False, runs=None):
     return words
 
 
+# Linux counts the memory of who starts a program to the program's peak, so one starts it that is small itself.
+STARTER = """
+import os, sys
+child = os.fork()
+if not child:
+    os.execvp(sys.argv[2], sys.argv[2:])
+used = os.wait4(child, 0)[2]
+os.write(int(sys.argv[1]), b"%f %d" % (used.ru_utime + used.ru_stime, used.ru_maxrss))
+"""
+
+
 def measured(words, given=None):
-    """Processor seconds, peak in MB and output of a program that gets this text."""
-    with tempfile.TemporaryFile() as said, tempfile.TemporaryFile() as script:
+    """Processor seconds, peak in MB and output of a program that gets this text. Peaks below 5 MB can't be told."""
+    if not shutil.which(words[0]):
+        raise SystemExit(f"there is no program {words[0]}")
+    with tempfile.TemporaryFile() as said, tempfile.TemporaryFile() as script, tempfile.TemporaryFile() as used:
         script.write((given or "").encode())
         script.seek(0)
-        child = subprocess.Popen(words, stdin=script, stdout=said, stderr=subprocess.DEVNULL)
-        _, status, used = os.wait4(child.pid, 0)
-        child.returncode = os.waitstatus_to_exitcode(status)
+        starter = [sys.executable, "-IS", "-c", STARTER, str(used.fileno()), *words]
+        subprocess.run(starter, stdin=script, stdout=said, stderr=subprocess.DEVNULL, pass_fds=[used.fileno()], check=True)
+        used.seek(0)
+        seconds, peak = used.read().split()
         said.seek(0)
-        return used.ru_utime + used.ru_stime, used.ru_maxrss / 1024, said.read().decode(errors="replace")
+        return float(seconds), int(peak) / 1024, said.read().decode(errors="replace")
 
 
 class Session:
@@ -117,8 +133,8 @@ def begun(rule, pattern, form="rle"):
     return f"{taking(rule)}start {form}\n{pattern.rstrip()}\nend\n"
 
 
-def soup(side, rule="LifeTable", dead="b", live="o"):
+def soup(side, rule="LifeTable", dead="b", live="o", seed=1):
     """A square of cells of which one in three lives, in one of some states, as RLE."""
-    chance = random.Random(1)
+    chance = random.Random(seed)
     rows = ["".join(chance.choice(live) if chance.random() < 1 / 3 else dead for _ in range(side)) for _ in range(side)]
     return f"x = {side}, y = {side}, rule = {rule}\n" + "$\n".join(rows) + "!\n"
