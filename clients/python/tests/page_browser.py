@@ -59,6 +59,12 @@ const look = () => {
 };
 look();
 """
+# Goes on once the page has drawn what it knows: its own frame, if one is due, comes before this one.
+DRAWN = """
+const done = arguments[0];
+if (window.app?.isDue || window.app?.isDrawDue) requestAnimationFrame(() => done());
+else done();
+"""
 
 
 def tests_in_browser(tests, path):
@@ -143,12 +149,13 @@ class InBrowser(unittest.TestCase):
         return self.browser.execute_script(words, *given)
 
     def comes(self, words, seconds):
-        """Whether something becomes so within a time."""
+        """Whether something becomes so within a time; then the page has drawn it too."""
         end = time.monotonic() + seconds * slack()
         while not self.js(f"return Boolean({words})"):
             if time.monotonic() > end:
                 return False
             time.sleep(0.03)
+        self.browser.execute_async_script(DRAWN)
         return True
 
     def until(self, words, seconds=15):

@@ -87,7 +87,7 @@ class MendsTest(InBrowser):
         self.click(self.button("Change"))
         self.until(f"app.state.interventions[0].last === '{END}'")
         self.assertEqual(self.intervention(), ["4", "10", END, 2])
-        self.assertEqual([it.get_attribute("value") for it in self.fields()], ["4", "10", ""])
+        self.until("[...document.querySelectorAll('#details input')].map((it) => it.value).join() === '4,10,'")
         self.assertLess(self.js("return app.far"), 2 ** 20)
         for generation in (4, 14, 1004):
             self.go(0, generation)

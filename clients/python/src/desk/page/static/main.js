@@ -183,9 +183,9 @@ class App {
       if (box) this.camera.fit(box, w, h);
       this.changed();
     }
-    if (!this.isDrawn) {
-      this.isDrawn = true;
-      requestAnimationFrame(() => { this.isDrawn = false; this.draw(); });
+    if (!this.isDrawDue) {
+      this.isDrawDue = true;
+      requestAnimationFrame(() => { this.isDrawDue = false; this.draw(); });
     }
   }
 
