@@ -59,6 +59,10 @@ const look = () => {
 };
 look();
 """
+# Whether something is so. It isn't where it speaks of what isn't there yet.
+IS_SO = """
+try { return Boolean(%s); } catch (fault) { if (fault instanceof TypeError) return false; throw fault; }
+"""
 # Goes on once the page has drawn what it knows: its own frame, if one is due, comes before this one.
 DRAWN = """
 const done = arguments[0];
@@ -151,7 +155,7 @@ class InBrowser(unittest.TestCase):
     def comes(self, words, seconds):
         """Whether something becomes so within a time; then the page has drawn it too."""
         end = time.monotonic() + seconds * slack()
-        while not self.js(f"return Boolean({words})"):
+        while not self.js(IS_SO % words):
             if time.monotonic() > end:
                 return False
             time.sleep(0.03)
