@@ -7,3 +7,4 @@ pub mod ByBlocks
 pub mod Names
 pub mod SmallRows
 pub mod BySmall
+pub mod Neighbourhoods

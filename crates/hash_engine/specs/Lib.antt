@@ -6,3 +6,4 @@ pub mod Found
 pub mod Asked
 pub mod Search
 pub mod Small
+pub mod Neighbourhoods

@@ -1,5 +1,9 @@
 //! Asking a rule that doesn't count.
-ghost use Rattle.std.specs.Prelude.{◌≡◌, ◌+◌};
+//!
+//! Most of what a pattern asks is of cells of the states 0 and 1, which have 512 neighbourhoods in all. The
+//! rule's answers for them are kept, since to follow a tree takes longer than to find one.
+ghost use Rattle.std.specs.Prelude.{◌≡◌, ◌+◌, ◌<◌, IfSome};
+ghost use Rattle.hash_engine.specs.Neighbourhoods.{states_of, AreAnswers};
 
 use boxcar::tag::{Names, Tag};
 use std::marker::Model;
@@ -44,11 +48,35 @@ impl Count {
     }
 }
 
-/// A rule together with how often it was asked.
+// As many neighbourhoods there are of the states 0 and 1.
+const NEIGHBOURHOODS: usize = 512;
+
+// What is kept for one that the rule wasn't asked for. An answer of this state isn't kept.
+const UNKNOWN: u8 = 255;
+
+/// A rule together with how often it was asked, and what it answers for neighbourhoods of the states 0
+/// and 1.
 #[derive(Drop)]
 pub struct Asking<'r, R: Next> {
     rule: &'r R,
     count: Count,
+    // By the neighbourhoods' numbers.
+    known: [u8; 512],
+    ghost answers: { AreAnswers (R.meaning rule.now) known },
+}
+
+// The number of a neighbourhood whose states are all 0 or 1. The first state is its lowest bit.
+fn number_of(around: &Around) -> Option<usize>
+    ensures few { IfSome result (λ number. number < 512) }
+    ensures states { IfSome result (λ number. states_of number ≡ around.now.0) }
+{
+    let [a, b, c, d, e, f, g, h, i] = around.0;
+    if a > 1 || b > 1 || c > 1 || d > 1 || e > 1 || f > 1 || g > 1 || h > 1 || i > 1 {
+        return None;
+    }
+    let low = a + 2 * b + 4 * c + 8 * d;
+    let high = e + 2 * f + 4 * g + 8 * h;
+    Some(usize::from(low) + 16 * usize::from(high) + 256 * usize::from(i))
 }
 
 impl<'r, R: Next> Asking<'r, R> {
@@ -60,6 +88,7 @@ impl<'r, R: Next> Asking<'r, R> {
         Asking {
             rule,
             count: Count::none(),
+            known: [UNKNOWN; NEIGHBOURHOODS],
         }
     }
 }
@@ -81,6 +110,15 @@ impl<'r, R: Next> Ask for Asking<'r, R> {
 
     fn ask(&mut self, around: &Around) -> u8 {
         self.count.raise();
-        self.rule.next(around)
+        let Some(number) = number_of(around) else {
+            return self.rule.next(around);
+        };
+        let known = self.known[number];
+        if known != UNKNOWN {
+            return known;
+        }
+        let answer = self.rule.next(around);
+        self.known[number] = answer;
+        answer
     }
 }

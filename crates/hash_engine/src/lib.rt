@@ -8,7 +8,8 @@
 //! call a level is asked for two counts of generations at most, the full 2^k and one other. Results by
 //! the full count are noted in the table, beside the quadrants of their squares, and a list by the
 //! squares' numbers remembers the others: 4 bytes a square. The rule is asked at level 2 alone, four
-//! times for each square of 4 by 4 cells that is put to it.
+//! times for each square of 4 by 4 cells that is put to it. `Asking` keeps what it answers for the 512
+//! neighbourhoods of the states 0 and 1.
 //!
 //! `search`, which goes on from what earlier calls found, makes no square that it doesn't need: blocks
 //! of 4 by 4 cells between those of a square of 8 by 8 are known by their quadrants alone, and where no

@@ -59,6 +59,7 @@ pub fn lay_small(table: &mut SquareTable<'_>) -> Result<(), TableFault>
     ensures rest { KeepsRest table.old table.new }
     ensures small { OnOk result (IsSmall table.new.rows) }
 {
+    table.reserve(SMALL_SQUARES);
     lay_twos(table)?;
     for place in 0..FOURS {
         table.join_numbers(four(place))?;

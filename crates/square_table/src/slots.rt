@@ -209,16 +209,17 @@ pub fn empty(slots: &mut [Slot])
     slots.fill(FREE);
 }
 
-/// Twice as many slots, where there is memory for them; a table with too few is only slower.
-pub fn widen(alloc: Global, rows: &[Row], slots: &mut Vec<Slot>)
+/// So many slots, where there is memory for them; a table with too few is only slower.
+pub fn widen(alloc: Global, rows: &[Row], slots: &mut Vec<Slot>, count: usize)
     requires finds { FindsRows (kids_of rows.now) (length rows.now) slots.old.items }
     requires few { length rows.now < row_range }
+    requires some { 0 < count }
     ensures { FindsRows (kids_of rows.now) (length rows.now) slots.new.items }
 {
-    if slots.len() >= MOST_SLOTS {
+    if count > MOST_SLOTS {
         return;
     }
-    let made = free_slots(alloc, slots.len() * 2);
+    let made = free_slots(alloc, count);
     if let Ok(mut wider) = made
         && spread(rows, &mut wider)
     {

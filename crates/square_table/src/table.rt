@@ -210,7 +210,20 @@ impl<'a> SquareTable<'a> {
         ensures { self.new ≡ self.old }
     {
         if self.rows.len() >= self.most_rows() {
-            widen(self.alloc, &self.rows, &mut self.slots);
+            let count = self.slots.len().saturating_mul(2).max(FEWEST_SLOTS);
+            widen(self.alloc, &self.rows, &mut self.slots, count);
+        }
+    }
+
+    /// Makes room for up to so many squares at once, where there is memory for it. So the way to a row
+    /// isn't looked for again and again while they are made.
+    pub fn reserve(&mut self, count: u32)
+        ensures { self.new ≡ self.old }
+    {
+        self.rows.reserve(count as usize).ok();
+        let slots = (2 * count as usize).max(FEWEST_SLOTS).next_power_of_two();
+        if slots > self.slots.len() {
+            widen(self.alloc, &self.rows, &mut self.slots, slots);
         }
     }
 

@@ -29,6 +29,18 @@ fn empty_squares_of_each_level_are_shared(rt: HostRuntime) {
     assert_eq!(&rt; table.len(), 63);
 }
 
+#[test]
+fn room_for_more_squares_changes_none(rt: HostRuntime) {
+    let arena = Bump::new(rt.alloc());
+    let mut table = SquareTable::new(rt.alloc(), &arena, 64).expect(&rt, "memory");
+    let small = table.blank(3).expect(&rt, "memory");
+    table.reserve(5000);
+    assert_eq!(&rt; table.len(), 3);
+    let again = table.blank(4).expect(&rt, "memory");
+    assert_eq!(&rt; small.number(), 258);
+    assert_eq!(&rt; again.number(), 259);
+}
+
 // Joins quadrants whose square has the number 257, by a guess.
 fn join_by(rt: &impl Abort, table: &mut SquareTable<'_>, guess: u32) {
     let number = table.join_guessed([0, 1, 1, 0], guess).expect(rt, "room");

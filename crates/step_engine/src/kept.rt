@@ -20,7 +20,7 @@ use std::marker::Model;
 const ROOM_FOR_SMALL: u32 = 1 << 18;
 
 // So many squares take as long to make as the small ones, which a shorter way isn't worth.
-const MADE_BEFORE_SMALL: u32 = 1 << 14;
+const MADE_BEFORE_SMALL: u32 = 1 << 12;
 
 // A first pattern of so many live cells is likely to make more.
 const MANY_CELLS: u128 = 1 << 12;
