@@ -14,9 +14,9 @@ pub use Rattle.dependency_book.specs.Needs.{CanBeReached, CanBeViewed, IsLedTo, 
 pub use Rattle.dependency_book.specs.Planned.{IsPlanned}
 pub use Rattle.dependency_book.specs.Puts.{CanBePut, PutsRow, can_change, filled_by, missing}
 pub use Rattle.dependency_book.specs.Ready.{AreHeldBack, IsFirst, NoneBefore, before_in, before_row, is_ready, place_ready, row_before, steppable, viewable}
-pub use Rattle.dependency_book.specs.Recalled.{AreGiven, Entered, Enters, EntersOrFrees, EntersSteps, Fills, LeavesNone, LooksUp, LooksUpAll, NoneKnown, Remembers, WasGiven}
+pub use Rattle.dependency_book.specs.Recalled.{AreGiven, Entered, Enters, EntersOrFrees, EntersSteps, Fills, Learns, LeavesNone, LooksUp, LooksUpAll, NoneKnown, Remembers, WasGiven}
 pub use Rattle.dependency_book.specs.Remade.{AreRemade, kept_of, remade_rows}
-pub use Rattle.dependency_book.specs.Right.{IsGiven, IsRightBook}
+pub use Rattle.dependency_book.specs.Right.{IsGiven, IsRightBook, WasIssued}
 pub use Rattle.dependency_book.specs.RowState.{any_out, either, has_number, is_empty, is_known, job_of, known, least_out, lesser, named_by, row_for, state_map}
 pub use Rattle.dependency_book.specs.Rows.{ArrivalRow, IsRanked, TextRow, bookmark_rank, by_key, keys, put, state_at}
 pub use Rattle.dependency_book.specs.Said.{answer_said, said, said_at, step_said, value_in, view_said}

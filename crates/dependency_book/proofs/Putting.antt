@@ -27,6 +27,7 @@ put_right d e need s right can puts =
     still : (job : Job) → IsGiven d job → IsGiven e job
     still job h = record {
       own = rw puts.book.document.table h.own;
+      issued = rw puts.book.indices h.issued;
       entry = rw puts.book.entries h.entry;
     }
 

@@ -1,7 +1,7 @@
 -- What came of a step may be entered for the mark that the step leads to.
 use Rattle.dependency_book.proofs.Names.{AddsOnly, Arc, AreGiven, BookState, Calls, CanBePut, CanRecall, Core, Empty, EntersOrFrees, EntersSteps, Event, Fact}
-use Rattle.dependency_book.proofs.Names.{Fills, Follows, Global, IsCollect, IsFilled, IsRightBook, IsSome, JobResult, Known, LooksUpAll, Need}
-use Rattle.dependency_book.proofs.Names.{List, Mark, NotExpected, Option, PutsRow, Recalled, Released, RowState, Value, SameBook, SameButFacts, Some, StepsFrom}
+use Rattle.dependency_book.proofs.Names.{Fills, Follows, Global, IsCollect, IsFilled, IsRightBook, IsSome, JobResult, Known, Learns, LooksUpAll, Need}
+use Rattle.dependency_book.proofs.Names.{List, Mark, NotExpected, Option, PutsRow, Recalled, Released, Remembers, RowState, Value, SameBook, SameButFacts, Some, StepsFrom}
 use Rattle.dependency_book.proofs.Names.{StepsTo, TakesAnswer, WasGiven, World, [], after_event, answer_said, ap, arc_value, arith, can_change}
 use Rattle.dependency_book.proofs.Names.{collects, core_of, holds, inl, inr, option_map, pattern, plain_row, recalls, recalls_right, refl, row_of, same_comes, slice_get, step_said, step_to, steps, subst, sym, true, world_after, ℕ, ◌++◌}
 use Rattle.dependency_book.proofs.Names.{with_facts, ◌∙◌, ◌∷◌, ◌≡◌, ◌≤◌}
@@ -158,7 +158,14 @@ pub record Filling (answer : JobResult) (old new : BookState) (f : Filled) : Typ
   pub book : SameBook old new
   pub event : IsCollect answer old new f
 
-module _ {old put : BookState} {answer : JobResult} (facts : List Fact) (missed : ℕ) where
+-- what came of its step is remembered on
+learns_on : (answer : JobResult) (old kept new : BookState) → Learns answer old kept → Remembers kept new
+    → (new.missed ≡ old.missed → kept.missed ≡ old.missed) → Learns answer old new
+learns_on answer old kept new learns remembers wanting same issued ok s is =
+    remembers s ∙ learns (wanting same) issued ok s is
+
+module _ {old put : BookState} {answer : JobResult} (facts : List Fact) (missed : ℕ)
+    (learns : Learns answer old (with_facts old facts missed)) where
   -- where a row was filled and steps were recalled
   pub filled_then : {new : BookState} → TakesAnswer answer (with_facts old facts missed) put Row → LooksUpAll put new
       → old.missed ≤ missed → Filling answer old new Row
@@ -168,7 +175,15 @@ module _ {old put : BookState} {answer : JobResult} (facts : List Fact) (missed 
       h.filled.1,
       (let first = h.filled.2 in let rest = recalls_wanting put new k.recalls in omega (arith, first, rest)),
     );
-    fills = record { put = put; book = assumption h.book; rows = h.rows; recalls = k.recalls };
+    fills = record {
+      put = put;
+      book = assumption h.book;
+      rows = h.rows;
+      recalls = k.recalls;
+      learns = learns_on answer old (with_facts old facts missed) new learns
+          (λ s. k.remembers s ∙ ap (λ fs. known fs s) h.remembered.facts)
+          (λ same. let first = h.remembered.missed in let rest = k.missed in omega (arith, same, more, first, rest));
+    };
     entered = λ same.
         k.none (let first = h.remembered.missed in let rest = k.missed in omega (arith, same, more, first, rest));
     book = book_then old put new (assumption h.book) (recalls_book put new k.recalls);
@@ -180,7 +195,14 @@ module _ {old put : BookState} {answer : JobResult} (facts : List Fact) (missed 
       → Filling answer old put f
   filled_alone f off h = record {
     filled = is f h.filled;
-    fills = record { put = put; book = assumption h.book; rows = h.rows; recalls = ([], refl) };
+    fills = record {
+      put = put;
+      book = assumption h.book;
+      rows = h.rows;
+      recalls = ([], refl);
+      learns = learns_on answer old (with_facts old facts missed) put learns
+          (λ s. ap (λ fs. known fs s) h.remembered.facts) (λ same. sym h.remembered.missed ∙ same);
+    };
     entered = frees f off;
     book = assumption h.book;
     event = h.event;

@@ -21,6 +21,7 @@ with_rows d q arrivals texts = record {
   table = d.table;
   plan = q;
   entries = d.entries;
+  indices = d.indices;
   arrivals = arrivals;
   texts = texts;
   refused = d.refused;
@@ -111,6 +112,7 @@ pub edit_keeps : (d : BookState) (asked : Asked) (felt : Option Mark) (marks : L
 edit_keeps d asked felt marks right so are = record {
   table = refl;
   entries = refl;
+  indices = refl;
   remembered = record { facts = refl; missed = refl };
   arrivals = λ m. arrivals_stay d (changed d.plan asked).plan felt marks m right.marks are;
   texts = λ id. texts_after d asked felt marks id so right.bookmarks;

@@ -4,7 +4,7 @@ use Rattle.dependency_book.proofs.Names.{Err, Expected, Fact, IfOk, IfSome, IsCa
 use Rattle.dependency_book.proofs.Names.{IsKeptBook, IsNext, IsNextJob, IsOf, IsRightAnswer, IsRightBook, IsTrueAnswer, Job, JobResult, List, Mark, Need, None, NotExpected, Ok, Option, Place, Plan, PutsRow, Result, RowState, Some, Step}
 use Rattle.dependency_book.proofs.Names.{StepExpects, TakesAnswer, Value, View, [], after_event, answer_said, answered, ap, arith, awaits, bookmark_id, bookmark_in, bookmark_rank, can_change, cancelled, cancels, clash, collects, core_of}
 use Rattle.dependency_book.proofs.Names.{either_way, entry_of, eq_false, eq_true, expected, false, filled_by, fun_ext, get_last, get_left, given_by, has_id, has_mark, has_number, if◌then◌else◌, index_of, inl, inr, is_job, is_mark, is_need}
-use Rattle.dependency_book.proofs.Names.{is_start, job_of, keys, mark_at, mark_rank, missing, nat_tests, need_is, need_same, nothing, plain_row, refl, row_of, said, said_at, slice_get, state_map, step_to, steps, subst, sym, text}
+use Rattle.dependency_book.proofs.Names.{is_start, job_of, keys, length, mark_at, mark_rank, missing, nat_tests, need_is, need_same, nothing, plain_row, refl, row_of, said, said_at, slice_get, state_map, step_to, steps, subst, sym, text}
 use Rattle.dependency_book.proofs.Names.{text_wanted, true, value, value_in, ℕ, ◌++◌, ◌∙◌, ◌∷◌, ◌≡◌, ◌⊎◌}
 use Rattle.step_engine.specs.declared.evolved.EvolveFault.{EvolveFault}
 use Rattle.revision_jobs.specs.declared.entry.Entry.TheVariants as entry
@@ -64,7 +64,10 @@ next_row d (View id) next =
 
 -- the book in which a number was given for the entry at a place
 abbrev pub more : BookState → Place → BookState
-more d place = record d { entries = d.entries ++ said_at place ∷ [] }
+more d place = record d {
+  entries = d.entries ++ said_at place ∷ [];
+  indices = d.indices ++ index_of place ∷ [];
+}
 
 module _ {d : BookState} {need : Need} {job : Job} (next : IsNextJob d need job) where
   can_issue : CanIssue (core_of d) need (said_at job.place)
@@ -77,6 +80,7 @@ module _ {d : BookState} {need : Need} {job : Job} (next : IsNextJob d need job)
   given_more : (other : Job) → IsGiven d other → IsGiven (more d job.place) other
   given_more other h = record {
     own = h.own;
+    issued = get_left d.indices (index_of job.place ∷ []) other.number (index_of other.place) h.issued;
     entry = get_left d.entries (said_at job.place ∷ []) other.number (said_at other.place) h.entry;
   }
 
@@ -103,13 +107,16 @@ module _ {d : BookState} {need : Need} {job : Job} (next : IsNextJob d need job)
             record { number = h.number; step = h.step; there = still; same = h.same };
       }
 
-  pub may_await : IsRightBook d → CanBePut (more d job.place) need (Expected job)
-  may_await right = record {
+  pub may_await : length d.indices ≡ length d.entries → IsRightBook d
+      → CanBePut (more d job.place) need (Expected job)
+  may_await each right = record {
     there = (next_row d need next.next).0;
     right = subst (λ n. IsRightCore (put need (awaits n) (core_of (more d job.place)))) (sym next.number)
         (core.issues_right (core_of d) need (said_at job.place) right.core can_issue);
     out = record {
       own = next.own;
+      issued = ap (slice_get (d.indices ++ index_of job.place ∷ [])) (next.number ∙ sym each)
+          ∙ get_last d.indices (index_of job.place);
       entry = ap (slice_get (d.entries ++ said_at job.place ∷ [])) next.number
           ∙ get_last d.entries (said_at job.place);
     };
@@ -122,6 +129,7 @@ module _ {d : BookState} {need : Need} {job : Job} (next : IsNextJob d need job)
         rows = puts.rows;
         document = assumption puts.book.document;
         entries = puts.book.entries;
+        indices = puts.book.indices;
         refused = puts.book.refused;
         fewer = (let none = ap missing (next_row d need next.next).1 in let count = puts.wanting in
             omega (arith, none, count));

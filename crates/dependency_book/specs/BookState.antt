@@ -18,14 +18,15 @@ use Rattle.dependency_book.specs.Rows.{ArrivalRow, TextRow, state_at, bookmark_r
 use Rattle.document_marks.specs.AllMarks.{mark_rank}
 use Rattle.step_facts.specs.Known.{Fact}
 
--- the table of entries that its jobs are of, the document, the entry of each number that was given,
--- a row for each of the document's marks but the start, a row for each of its bookmarks, how often
--- an issue was refused because memory ran out, the steps that are remembered with what came of them,
--- and how often memory was wanting for remembering one or looking one up
+-- the table of entries that its jobs are of, the document, the entry of each number that was given
+-- and its index in the table, a row for each of the document's marks but the start, a row for each of
+-- its bookmarks, how often an issue was refused because memory ran out, the steps that are remembered
+-- with what came of them, and how often memory was wanting for remembering one or looking one up
 pub record BookState : Type 0 where
   pub table : Entries
   pub plan : Plan
   pub entries : List Entry
+  pub indices : List ℕ
   pub arrivals : List ArrivalRow
   pub texts : List TextRow
   pub refused : ℕ
@@ -38,6 +39,7 @@ opened table revision = record {
   table = table;
   plan = opening revision;
   entries = [];
+  indices = [];
   arrivals = [];
   texts = [];
   refused = 0;

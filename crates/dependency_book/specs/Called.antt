@@ -3,6 +3,7 @@ use Rattle.std.specs.Prelude.{◌≡◌, ℕ, ◌+◌, ◌++◌, [], ◌∷◌, 
 use Rattle.schedule.specs.Asked.{Asked}
 use Rattle.revision_jobs.specs.declared.answer.Job.{Job}
 use Rattle.revision_jobs.specs.Answer.{JobResult}
+use Rattle.revision_jobs.specs.Entries.{index_of}
 use Rattle.desk_events.specs.declared.mark.Mark.{Mark}
 use Rattle.desk_events.specs.declared.need.Need.{Need}
 use Rattle.desk_events.specs.Event.{cancels, collects, edits, issues}
@@ -25,6 +26,7 @@ pub record IsIssue (need : Need) (job : Job) (old new : BookState) : Type 0 wher
   pub rows : (other : Need) → row_of new other ≡ issued need job other (row_of old other)
   pub document : SameDocument old new
   pub entries : new.entries ≡ old.entries ++ said_at job.place ∷ []
+  pub indices : new.indices ≡ old.indices ++ index_of job.place ∷ []
   pub refused : new.refused ≡ old.refused
   pub fewer : empty_rows_of new + 1 ≡ empty_rows_of old
   pub event : Calls (issues need (said_at job.place)) (core_of old) (core_of new)

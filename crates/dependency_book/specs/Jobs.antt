@@ -113,8 +113,10 @@ pub record SameDocument (old new : BookState) : Type 0 where
   pub marks : keys new.arrivals ≡ keys old.arrivals
   pub bookmarks : keys new.texts ≡ keys old.texts
 
--- so are they, the entries of the numbers that were given, and how often an issue was refused
+-- so are they, the entries of the numbers that were given with their indices, and how often an issue
+-- was refused
 pub record SameBook (old new : BookState) : Type 0 where
   pub document : SameDocument old new
   pub entries : new.entries ≡ old.entries
+  pub indices : new.indices ≡ old.indices
   pub refused : new.refused ≡ old.refused

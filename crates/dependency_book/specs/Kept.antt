@@ -47,6 +47,7 @@ arrival_after felt p q m state =
 pub record KeepsRows (asked : Asked) (felt : Option Mark) (old new : BookState) : Type 0 where
   pub table : new.table ≡ old.table
   pub entries : new.entries ≡ old.entries
+  pub indices : new.indices ≡ old.indices
   pub remembered : SameFacts old new
   pub arrivals : (m : Mark) →
       arrival_row new m ≡ arrival_after felt old.plan new.plan m (arrival_row old m)

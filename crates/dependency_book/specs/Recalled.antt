@@ -1,7 +1,10 @@
 -- What is entered without a job, because it was computed before.
 use Rattle.std.specs.Prelude.{◌≡◌, ℕ, ◌≤◌, List, [], ◌∷◌, true, false, Some, None, IsSome, slice_get, ⊤}
+use Rattle.std.specs.Result.{IsOk}
+use Rattle.revision_jobs.specs.declared.entry.Entry.TheVariants as entry
 use Rattle.revision_jobs.specs.declared.entry.Step.{Step as Stepping}
 use Rattle.revision_jobs.specs.Answer.{JobResult}
+use Rattle.revision_jobs.specs.Entries.{entry_of}
 use Rattle.revision_jobs.specs.Value.{pattern, world_after}
 use Rattle.schedule.specs.Asked.{Asked}
 use Rattle.desk_events.specs.declared.mark.Mark.{Mark}
@@ -18,6 +21,7 @@ use Rattle.dependency_book.specs.Kept.{KeepsUnfelt}
 use Rattle.desk_events.specs.Entry.{AreSameSteps, Entry, Stepping as Given, steps}
 use Rattle.step_facts.specs.Known.{Fact, known}
 use Rattle.dependency_book.specs.Puts.{PutsRow, can_change}
+use Rattle.dependency_book.specs.Right.{WasIssued}
 use Rattle.dependency_book.specs.Said.{step_said}
 
 -- an earlier number was given for the same step, whatever its rule is called
@@ -87,18 +91,28 @@ pub record LooksUpAll (old new : BookState) : Type 0 where
 pub record Revises (asked : Asked) (old new : BookState) : Type 0 where
   pub table : new.table ≡ old.table
   pub entries : new.entries ≡ old.entries
+  pub indices : new.indices ≡ old.indices
   pub kept : BookState
   pub keeps : KeepsUnfelt asked old kept
   pub recalls : EntersSteps kept new
   pub remembers : Remembers old new
   pub none : LeavesNone old new
 
--- an answer was taken, and what is known by steps that were computed before was entered
+-- unless memory was wanting, the step of a job that was issued is remembered with what came of it,
+-- whether or not a row still expects the job
+abbrev pub Learns : JobResult → BookState → BookState → Type 0
+Learns answer old new =
+    new.missed ≡ old.missed → WasIssued old answer.job → IsOk answer.outcome → (s : Stepping) →
+    entry_of answer.job.place ≡ entry.Step s → known new.facts s ≡ Some (world_after s)
+
+-- an answer was taken, what came of a step is remembered, and what is known by steps that were
+-- computed before was entered
 pub record Fills (answer : JobResult) (old new : BookState) : Type 0 where
   pub put : BookState
   pub book : SameBook old put
   pub rows : (need : Need) → row_of put need ≡ answered answer (row_of old need)
   pub recalls : EntersSteps put new
+  pub learns : Learns answer old new
 
 -- where a row was filled all that is known was entered; where the job of an answer gave up, the
 -- answer changes the row that expects it and no other

@@ -1,14 +1,14 @@
 //! Steps to marks: which can be made, and what came of those that were made before.
-ghost use Rattle.std.specs.Prelude.{◌≡◌, ◌<◌, ◌≤◌, length, slice_index_or, IsTrue};
-ghost use Rattle.revision_jobs.specs.Answer.{IsRightAnswer, outcome_of};
+ghost use Rattle.std.specs.Prelude.{◌≡◌, ◌<◌, ◌≤◌, ◌↔◌, length, slice_index_or, IsTrue};
+ghost use Rattle.revision_jobs.specs.Answer.{IsRightAnswer, outcome_of, result_in};
 ghost use Rattle.revision_jobs.specs.Entries.{IsOf};
 ghost use Rattle.desk_events.specs.Needs.{step_to};
 ghost use Rattle.dependency_book.specs.BookState.{SameButFacts, row_of};
 ghost use Rattle.dependency_book.specs.Needs.{IsLedTo};
 ghost use Rattle.dependency_book.specs.Ready.{AreHeldBack, IsFirst, NoneBefore, before_row};
 ghost use Rattle.dependency_book.specs.Ready.{is_ready, steppable, waits};
-ghost use Rattle.dependency_book.specs.Recalled.{LooksUp, LooksUpAll};
-ghost use Rattle.dependency_book.specs.Right.{IsGiven, IsRightBook};
+ghost use Rattle.dependency_book.specs.Recalled.{Learns, LooksUp, LooksUpAll};
+ghost use Rattle.dependency_book.specs.Right.{IsGiven, IsRightBook, WasIssued};
 ghost use Rattle.dependency_book.specs.Rows.{ArrivalRow, IsRanked};
 ghost use Rattle.dependency_book.specs.declared.row.RowState.TheVariants.{Empty};
 ghost use Rattle.document_marks.specs.AllMarks.{mark_rank};
@@ -110,6 +110,7 @@ impl Book<'_> {
         requires right { IsRightAnswer parts.now.job parts.now.limit (outcome_of parts.now.outcome) }
         ensures same { SameButFacts self.old self.new }
         ensures missed { self.old.missed ≤ self.new.missed }
+        ensures learns { Learns (result_in parts.now) self.old self.new }
     {
         let Outcome::Plane(plane) = &parts.outcome else {
             return;
@@ -129,7 +130,8 @@ impl Book<'_> {
     // Whether the number of a job was given for its entry.
     fn gave(&self, job: &Job) -> bool
         requires { IsOf self.now.table job.now.place }
-        ensures { IsTrue result → IsGiven self.now job.now }
+        ensures issued { IsTrue result ↔ WasIssued self.now job.now }
+        ensures given { IsTrue result → IsGiven self.now job.now }
     {
         match self.issued.get(job.number as usize) {
             Some(place) => self.entries.same(place, &job.place),

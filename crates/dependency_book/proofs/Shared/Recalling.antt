@@ -46,6 +46,7 @@ book_then d e f h k = record {
     bookmarks = k.document.bookmarks ∙ h.document.bookmarks;
   };
   entries = k.entries ∙ h.entries;
+  indices = k.indices ∙ h.indices;
   refused = k.refused ∙ h.refused;
 }
 

@@ -1,4 +1,4 @@
-use Rattle.dependency_book.proofs.Names.{TakesAnswer, clash, subst, sym, with_facts, ◌≡◌}
+use Rattle.dependency_book.proofs.Names.{Learns, TakesAnswer, clash, subst, sym, with_facts, ◌≡◌}
 use Rattle.dependency_book.specs.declared.filled.Filled.TheVariants.{Row}
 use Rattle.dependency_book.proofs.Recalled.{Filling, filled_alone, filled_then, took}
 use Rattle.dependency_book.proofs.book.Book.fill.Goals.{in-Row, in_default}
@@ -18,6 +18,7 @@ returns-then-matches c =
     ] in
     let h = subst (Filling c.args.answer old new) (sym row)
     (filled_then kept.facts kept.missed
+    (subst (λ a. Learns a old kept) c.into_parts-parts.ensures.parts c.keep_fact.ensures.learns)
     (subst (TakesAnswer c.args.answer (with_facts old kept.facts kept.missed) c.take-filled.new.self) row taken)
     c.recall_all.ensures.all c.keep_fact.ensures.missed) in
     assumption (h, c.recall_all.ensures.right)
@@ -30,7 +31,11 @@ returns-else-matches c =
           (clash c.match-matches.matches w.matches-is c.if-matches.false)
       | in_default w ↦ w.in_default.not-Row
     ] in
-    let h : Filling c.args.answer c.args.self.now c.take-filled.new.self c.take-filled.result =
-    filled_alone c.keep_fact.new.self.facts c.keep_fact.new.self.missed c.take-filled.result other
-    (took c.args.self.now c.keep_fact.ensures.same c.into_parts-parts.ensures.parts c.take-filled.ensures.takes) in
+    let old = c.args.self.now in
+    let kept = c.keep_fact.new.self in
+    let h : Filling c.args.answer old c.take-filled.new.self c.take-filled.result =
+    filled_alone kept.facts kept.missed
+    (subst (λ a. Learns a old kept) c.into_parts-parts.ensures.parts c.keep_fact.ensures.learns)
+    c.take-filled.result other
+    (took old c.keep_fact.ensures.same c.into_parts-parts.ensures.parts c.take-filled.ensures.takes) in
     assumption (h, c.take-filled.ensures.right)

@@ -16,12 +16,14 @@ pub invariant_of-self : goal.invariant_of-self
 invariant_of-self c =
     kept_noted _ _ _
     (given_still (state_of c.self.inside) c.args.parts.now.job c.in-Step.step _ _ c.self.view_is
-    (c.if-not-gave.ensures refl) (sym c.at.ensures.entry ∙ c.in-Step.is) c.self.invariant.facts c.keep-kept.ensures.adds)
+    (c.if-not-gave.ensures.given refl) (sym c.at.ensures.entry ∙ c.in-Step.is) c.self.invariant.facts
+    c.keep-kept.ensures.adds)
     c.self.invariant
 
 pub invariant_of-self-else-is_err : goal.invariant_of-self-else-is_err
 invariant_of-self-else-is_err c =
     kept_noted _ _ _
     (given_still (state_of c.self.inside) c.args.parts.now.job c.in-Step.step _ _ c.self.view_is
-    (c.if-not-gave.ensures refl) (sym c.at.ensures.entry ∙ c.in-Step.is) c.self.invariant.facts c.keep-kept.ensures.adds)
+    (c.if-not-gave.ensures.given refl) (sym c.at.ensures.entry ∙ c.in-Step.is) c.self.invariant.facts
+    c.keep-kept.ensures.adds)
     c.self.invariant

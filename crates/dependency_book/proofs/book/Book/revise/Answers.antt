@@ -26,6 +26,7 @@ returns-clause-revises c =
     record {
       table = book.document.table ∙ kept.keeps.table;
       entries = book.entries ∙ kept.keeps.entries;
+      indices = book.indices ∙ kept.keeps.indices;
       kept = c.commit.new.self;
       keeps = kept;
       recalls = all.recalls;
