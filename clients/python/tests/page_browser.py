@@ -23,6 +23,7 @@ except ImportError:
     webdriver = ActionChains = By = Keys = None
 
 BROWSER, DRIVER = shutil.which("chromium"), shutil.which("chromedriver")
+PICTURES = os.environ.get("PICTURES")
 OPTIONS = ("--headless=new", "--no-sandbox", "--disable-gpu", "--disable-dev-shm-usage", "--window-size=1200,860",
            "--force-device-scale-factor=1", "--no-first-run", "--disable-background-networking")
 WIRE = {0: (32, 32, 40), 1: (80, 160, 255), 2: (255, 255, 255), 3: (255, 160, 0)}
@@ -174,6 +175,26 @@ class InBrowser(unittest.TestCase):
             self.until(f"document.querySelector({selector!r})?.textContent === {wanted!r}", seconds)
         except AssertionError:
             self.assertEqual(self.js(f"return document.querySelector({selector!r})?.textContent"), wanted)
+
+    def in_window(self, width, height):
+        """Shows the page in a window of this size until the test's end."""
+        self.browser.execute_cdp_cmd("Emulation.setDeviceMetricsOverride", {
+            "width": width, "height": height, "deviceScaleFactor": 1, "mobile": width < 500})
+        self.addCleanup(self.browser.execute_cdp_cmd, "Emulation.clearDeviceMetricsOverride", {})
+        self.until(f"innerWidth === {width}")
+
+    def picture(self, name, is_all_known=True):
+        """Keeps what is shown for the documents, where pictures are asked for."""
+        if PICTURES:
+            if is_all_known:
+                self.until("!document.querySelector('.hatched, #status.pending')", 60)
+            time.sleep(0.8)
+            self.browser.save_screenshot(str(Path(PICTURES) / f"{name}.png"))
+
+    def button(self, words):
+        """A button of what is selected on the timeline."""
+        [found] = [it for it in self.browser.find_elements(By.CSS_SELECTOR, "#details button") if it.text == words]
+        return found
 
     def find(self, selector):
         return self.browser.find_element(By.CSS_SELECTOR, selector)

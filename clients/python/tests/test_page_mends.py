@@ -3,7 +3,6 @@ import time
 import unittest
 
 from page_browser import By, InBrowser, Keys, tests_in_browser
-from test_page_with import slack
 
 try:
     from desk.page.state_names import state_names
@@ -37,10 +36,6 @@ class MendsTest(InBrowser):
     def write(self, field, words):
         field.clear()
         field.send_keys(words)
-
-    def button(self, words):
-        [found] = [it for it in self.browser.find_elements(By.CSS_SELECTOR, "#details button") if it.text == words]
-        return found
 
     def intervention(self):
         return self.js("const [it] = app.state.interventions; return [it.first, it.distance, it.last, it.cells]")
@@ -135,8 +130,8 @@ class MendsTest(InBrowser):
             time.sleep(2.1)
             steps = self.js("app.player.play(false); return Number(app.pane.generation)")
             gone[speed] = steps / (time.monotonic() - begun)
-        self.assertLess(abs(gone[2] - 2), 1)
-        self.assertGreater(gone[60], 20 / slack())
+        self.assertLess(gone[2], 3)
+        self.assertGreater(gone[60], 2 * gone[2])  # a busy machine hasn't each picture in time
         self.assertLess(gone[60], 66)
         self.js("app.player.setSpeed(10)")
         self.press(">")
@@ -155,10 +150,7 @@ class MendsTest(InBrowser):
     def test_on_a_small_screen_the_tools_are_below_the_picture(self):
         self.wire()
         for width, is_below in ((420, True), (1280, False)):
-            self.browser.execute_cdp_cmd("Emulation.setDeviceMetricsOverride", {
-                "width": width, "height": 900, "deviceScaleFactor": 1, "mobile": width < 500})
-            self.addCleanup(self.browser.execute_cdp_cmd, "Emulation.clearDeviceMetricsOverride", {})
-            self.until(f"innerWidth === {width}")
+            self.in_window(width, 900)
             pane, tools = self.js("return ['#panes', 'aside'].map((it) => { const box = "
                                   "document.querySelector(it).getBoundingClientRect().toJSON(); return box; })")
             self.assertEqual(tools["top"] >= pane["bottom"], is_below, (width, pane, tools))

@@ -365,10 +365,7 @@ class EditorTests:
 
     def test_on_a_small_screen_it_is_below_the_picture(self):
         self.rule()
-        self.browser.execute_cdp_cmd("Emulation.setDeviceMetricsOverride", {
-            "width": 420, "height": 900, "deviceScaleFactor": 1, "mobile": True})
-        self.addCleanup(self.browser.execute_cdp_cmd, "Emulation.clearDeviceMetricsOverride", {})
-        self.until("innerWidth === 420")
+        self.in_window(420, 900)
         pane, text, tools = self.js("return ['#panes', '#rule', 'aside'].map((it) => "
                                     "document.querySelector(it).getBoundingClientRect().toJSON())")
         self.assertGreaterEqual(text["top"], pane["bottom"])

@@ -2,18 +2,15 @@
 
     python3 -m unittest discover -s clients/python/tests -p test_page_walk.py
 
-With WALK_PICTURES=FOLDER in the environment it puts the walk's pictures there.
+With PICTURES=FOLDER in the environment it puts the walk's pictures there.
 """
-import os
 import re
-import time
 import unittest
-from pathlib import Path
 
 from page_browser import ActionChains, InBrowser, Keys, tests_in_browser
 from places import ROOT
 
-WALK, PICTURES = ROOT / "docs/WALK.md", os.environ.get("WALK_PICTURES")
+WALK = ROOT / "docs/WALK.md"
 RULE = """\
 @RULE Prairie
 @TABLE
@@ -56,13 +53,6 @@ def load_tests(loader, tests, pattern):
 
 
 class WalkTest(InBrowser):
-    def picture(self, name):
-        """Keeps what is shown, where pictures are asked for."""
-        if PICTURES:
-            self.until("!document.querySelector('.hatched')", 60)
-            time.sleep(0.8)
-            self.browser.save_screenshot(str(Path(PICTURES) / f"{name}.png"))
-
     def states(self, cells, pane=0):
         return self.js("return arguments[0].map(([x, y]) => app.frames.stateAt(app.panes[arguments[1]].place, "
                        "{ x: BigInt(x), y: BigInt(y) }))", cells, pane)
@@ -98,9 +88,7 @@ class WalkTest(InBrowser):
     def test_the_walk(self):
         self.assertIn(f"```\n{RULE}```\n", WALK.read_text(encoding="utf-8"))
         self.open()
-        self.browser.execute_cdp_cmd("Emulation.setDeviceMetricsOverride", {
-            "width": 1180, "height": 720, "deviceScaleFactor": 1, "mobile": False})
-        self.addCleanup(self.browser.execute_cdp_cmd, "Emulation.clearDeviceMetricsOverride", {})
+        self.in_window(1180, 720)
         self.write_the_rule()
         self.light_a_fire()
         self.find_the_mistake()
