@@ -1,11 +1,14 @@
 use super::same;
 use hash_engine::Asking;
 use std::process::Abort;
+use test_planes::are_below;
 use test_rules::Copying;
 use worlds::{Around, Ask};
 
-/// Stops the test where a rule that takes the eastern neighbour's state doesn't, at first or again.
+/// Stops the test where a rule that takes the eastern neighbour's state doesn't, at first or again, or
+/// hasn't these states.
 fn expect_eastern(rt: &impl Abort, rule: &mut Asking<'_, Copying>, states: [u8; 9], wanted: u8) {
+    assert!(rt; are_below(&states, rule.states()), "{states:?}");
     same(rt, &rule.ask(&Around(states)), &wanted, &states);
     same(rt, &rule.ask(&Around(states)), &wanted, &states);
 }
