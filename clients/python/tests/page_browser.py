@@ -39,11 +39,13 @@ const data = new DataTransfer();
 for (let it = 0; it < arguments.length; it += 2) data.items.add(new File([arguments[it + 1]], arguments[it]));
 document.body.dispatchEvent(new DragEvent("drop", { dataTransfer: data, bubbles: true, cancelable: true }));
 """
-# Where a cell's middle is, from the middle of its picture.
+# Where a cell's middle is, from the middle of its picture, both by the pixel that they are in. The picture is drawn from
+# a whole pixel on.
 CELL = """
 const pane = app.panes[arguments[2]], at = pane.pixelOf(BigInt(arguments[0]), BigInt(arguments[1]));
 const box = pane.canvas.getBoundingClientRect();
-return [at.x + at.side / 2 - box.width / 2, at.y + at.side / 2 - box.height / 2];
+const from = (edge, size, place) => Math.round(edge) + place + Math.floor(at.side / 2) - Math.floor(edge + size / 2);
+return [from(box.x, box.width, at.x), from(box.y, box.height, at.y)];
 """
 # Whether something comes to rest in the window: for three frames it is in one place, and a click would reach it.
 AT_REST = """
@@ -220,7 +222,7 @@ class InBrowser(unittest.TestCase):
         """The pointer over a cell of a picture."""
         left, top = self.js(CELL, str(x), str(y), pane)
         return ActionChains(self.browser).move_to_element_with_offset(
-            self.browser.find_elements(By.CSS_SELECTOR, ".pane canvas")[pane], round(left), round(top))
+            self.browser.find_elements(By.CSS_SELECTOR, ".pane canvas")[pane], left, top)
 
     def drag(self, selector, by):
         chain = self.over(selector).click_and_hold()

@@ -34,6 +34,16 @@ class ReadoutTest(InBrowser):
         self.js("document.querySelector('.pane canvas').dispatchEvent(new PointerEvent('pointerleave'))")
         self.until_text(".spot", "")
 
+    def test_the_cell_under_the_pointer_where_the_layout_lies_between_pixels(self):
+        self.wire()
+        self.js("app.camera.zoom = 0; app.camera.x = app.camera.y = 0n; app.changed()")
+        self.until_known(0, 0)
+        for padding in ("8px", "8.3px", "8.6px", "8.9px"):
+            self.js("document.body.style.paddingTop = arguments[0]", padding)
+            for y, state in ((0, 0), (1, 3), (3, 3), (4, 0)):
+                self.at(0, y).perform()
+                self.until_text(".spot", f"(0, {y}): {state}")
+
     def test_the_cell_under_the_pointer_is_pending_where_it_is_not_known(self):
         self.life(800)
         self.until_known(0, 0)

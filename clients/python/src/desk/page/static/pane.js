@@ -181,6 +181,14 @@ export class Pane {
     return { x: Number((x - corner.x) / cells) * side, y: Number((y - corner.y) / cells) * side, side };
   }
 
+  // Where the pointer is in the picture, which is drawn from a whole pixel of the screen on, also where the page's
+  // layout puts it between two.
+  pixelOfPointer(event) {
+    const { left, top } = this.canvas.getBoundingClientRect();
+    const whole = (it) => Math.round(it * devicePixelRatio) / devicePixelRatio;
+    return { x: event.clientX - whole(left), y: event.clientY - whole(top) };
+  }
+
   listen() {
     const { canvas } = this;
     canvas.addEventListener("pointerdown", (event) => this.down(event));
@@ -191,8 +199,8 @@ export class Pane {
     canvas.addEventListener("contextmenu", (event) => event.preventDefault());
     canvas.addEventListener("wheel", (event) => {
       event.preventDefault();
-      const { camera } = this.app, { w, h } = this.size;
-      camera.zoomTo(camera.zoom + (event.deltaY < 0 ? 1 : -1), event.offsetX, event.offsetY, w, h);
+      const { camera } = this.app, { w, h } = this.size, { x, y } = this.pixelOfPointer(event);
+      camera.zoomTo(camera.zoom + (event.deltaY < 0 ? 1 : -1), x, y, w, h);
       this.app.changed();
     }, { passive: false });
     canvas.addEventListener("keydown", (event) => this.key(event));
@@ -210,8 +218,9 @@ export class Pane {
   }
 
   moved(event) {
-    const { w, h } = this.size, cell = this.app.camera.cellAt(event.offsetX, event.offsetY, w, h);
-    this.readout.follow({ x: event.offsetX, y: event.offsetY });
+    const { w, h } = this.size, pixel = this.pixelOfPointer(event);
+    const cell = this.app.camera.cellAt(pixel.x, pixel.y, w, h);
+    this.readout.follow(pixel);
     if (this.app.ghost.pattern && !this.gesture) this.app.ghost.follow(cell);
     this.gesture?.moved(cell, event);
   }
