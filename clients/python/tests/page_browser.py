@@ -39,8 +39,8 @@ const data = new DataTransfer();
 for (let it = 0; it < arguments.length; it += 2) data.items.add(new File([arguments[it + 1]], arguments[it]));
 document.body.dispatchEvent(new DragEvent("drop", { dataTransfer: data, bubbles: true, cancelable: true }));
 """
-# Where a cell's middle is, from the middle of its picture, both by the pixel that they are in. The picture is drawn from
-# a whole pixel on.
+# Where a cell's middle is, from the middle of its picture, both by the pixel that they are in. The picture is drawn
+# from a whole pixel on.
 CELL = """
 const pane = app.panes[arguments[2]], at = pane.pixelOf(BigInt(arguments[0]), BigInt(arguments[1]));
 const box = pane.canvas.getBoundingClientRect();

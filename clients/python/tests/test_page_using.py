@@ -1,5 +1,5 @@
-"""The walk of ten minutes of docs/USING.md, step by step as it is written there, and what else its pictures show. It runs
-with the other tests, or alone by
+"""The walk of ten minutes of docs/USING.md, step by step as it is written there, and what else its pictures show. It
+runs with the other tests, or alone by
 
     python3 -m unittest discover -s clients/python/tests -p test_page_using.py
 
